@@ -1,0 +1,12 @@
+//! The numbers and vectors of the evaluator, and what their operations give.
+//!
+//! A fixed number is a raw `i64` that stands for itself divided by 2^32. Every operation is total:
+//! its result is the exact one, rounded down where it must be rounded, and then brought into the
+//! range of the type. The crate stands on nothing but `std`.
+#![tactic(auto)]
+
+pub mod fixed;
+pub mod vector;
+
+pub use fixed::Fx;
+pub use vector::V3;
