@@ -6,7 +6,9 @@
 #![tactic(auto)]
 
 pub mod fixed;
+pub mod value;
 pub mod vector;
 
 pub use fixed::Fx;
+pub use value::{Place, Value, ValueKind};
 pub use vector::V3;

@@ -4,7 +4,7 @@ ghost use Rattle.gn_value.specs.Arithmetic.{sum_of};
 use crate::fixed::Fx;
 
 /// A vector of three fixed numbers.
-#[derive(Clone, Copy, Debug, PartialEq, Eq, PartialOrd, Ord)]
+#[derive(Clone, Copy, Debug, PartialEq, Eq, PartialOrd, Ord, Hash)]
 pub struct V3 {
     pub x: Fx,
     pub y: Fx,
