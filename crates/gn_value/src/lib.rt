@@ -5,10 +5,17 @@
 //! range of the type. The crate stands on nothing but `std`.
 #![tactic(auto)]
 
+pub mod conversion;
 pub mod fixed;
+pub mod mixing;
+pub mod sums;
 pub mod value;
 pub mod vector;
+pub mod whole;
 
+pub use conversion::convert;
 pub use fixed::Fx;
+pub use mixing::mix64;
 pub use value::{Place, Value, ValueKind};
 pub use vector::V3;
+pub use whole::isqrt;
