@@ -1,3 +1,4 @@
 pub mod Bounded
 pub mod Modulo
 pub mod Roots
+pub mod Worked

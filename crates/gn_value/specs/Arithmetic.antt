@@ -65,16 +65,15 @@ pub record IsRoot (n r : ℕ) : Type 0 where
   pub square_fits : r * r ≤ n
   pub next_does_not : n < (r + 1) * (r + 1)
 
--- the greatest number below 2 ^ bits that passes a test which no number passes above one that
--- fails it; 0 where none passes
-unfoldable pub greatest : ℕ → (ℕ → Bool) → ℕ
-greatest zero passes = 0
-greatest (suc bits) passes =
-    if passes (2 ^ bits) then 2 ^ bits + greatest bits (λ r. passes (2 ^ bits + r)) else greatest bits passes
+-- the greatest number from base on and below base + 2 ^ bits that passes a test, where what passes
+-- is all up to some number; base where no more pass
+unfoldable pub greatest : ℕ → (ℕ → Bool) → ℕ → ℕ
+greatest zero passes base = base
+greatest (suc bits) passes base = greatest bits passes (if passes (base + 2 ^ bits) then base + 2 ^ bits else base)
 
 -- the square root of a number below 2 ^ 128, rounded down
 unfoldable pub isqrt_of : ℕ → ℕ
-isqrt_of n = greatest 64 (λ r. nat_le (r * r) n)
+isqrt_of n = greatest 64 (λ r. nat_le (r * r) n) 0
 
 abbrev pub root_of : ℤ → ℤ
 root_of a = if int_lt a (pos 0) then pos 0 else pos (isqrt_of (unsigned_abs a * 2 ^ 32))

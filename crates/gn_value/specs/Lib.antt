@@ -1,2 +1,4 @@
 pub mod Arithmetic
+pub mod Operations
+pub mod Rows
 pub mod Values

@@ -8,6 +8,7 @@
 pub mod conversion;
 pub mod fixed;
 pub mod mixing;
+pub mod op;
 pub mod sums;
 pub mod value;
 pub mod vector;
