@@ -78,11 +78,7 @@ impl Fx {
     pub fn abs(self) -> Fx
         ensures { result ≡ fx (magnitude_of self.0) }
     {
-        if self.0 < 0 {
-            Fx(0i64.saturating_sub(self.0))
-        } else {
-            self
-        }
+        Fx(self.0.saturating_abs())
     }
 
     /// The square root, rounded down; 0 for a negative number.
