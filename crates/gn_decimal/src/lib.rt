@@ -1,0 +1,24 @@
+//! Decimal texts of fixed numbers, both ways.
+//!
+//! `read` gives the fixed number that is nearest to a decimal number, exactly, for a text of any
+//! length, and `print` writes the shortest usual text of ten places. What is printed is read as the
+//! same number, for each number there is. Both take no memory, and go over a text once.
+//! The crate stands on the fixed numbers of `gn_value`, and on `thiserror`.
+#![tactic(auto)]
+
+mod printer;
+mod reader;
+mod rounding;
+mod significand;
+
+pub use printer::print;
+pub use reader::read;
+use thiserror::Error;
+
+/// The text is not a decimal number.
+#[derive(Clone, Copy, Debug, PartialEq, Eq, Error)]
+#[error("not a decimal number")]
+pub struct NotANumber;
+
+#[cfg(test)]
+mod tests;
