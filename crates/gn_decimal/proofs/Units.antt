@@ -58,8 +58,8 @@ raw_of_out_of_range u h = let near = nearest-within (u * 2 ^ 32) (10 ^ 18) (omeg
 -- ---- a fraction with at most nine places
 
 -- whole and part of a number whose last `places` digits stand behind the point
-units_of_places : (whole part power rest : ℕ) → power * rest ≡ 10 ^ 9 → (whole * power + part) * (rest * 10 ^ 9) * 2 ^ 32 ≡ 2 * (whole * 2 ^ 31) * 10 ^ 18 + part * rest * 2 ^ 32 * 10 ^ 9
-units_of_places whole part power rest nine =
+units_of_split : (whole part power rest : ℕ) → power * rest ≡ 10 ^ 9 → (whole * power + part) * (rest * 10 ^ 9) * 2 ^ 32 ≡ 2 * (whole * 2 ^ 31) * 10 ^ 18 + part * rest * 2 ^ 32 * 10 ^ 9
+units_of_split whole part power rest nine =
     let wholes = ap (λ p. whole * p) nine in
     omega arith
 
@@ -76,7 +76,7 @@ raw_of_places digits places h =
     let left : 0 + 18 - places ≡ 9 - places + 9 = omega arith in
     let more : 10 ^ (0 + 18 - places) ≡ 10 ^ (9 - places) * 10 ^ 9 = ap (λ k. 10 ^ k) left ∙ pow-add 10 (9 - places) 9 in
     let product = units_of_product digits 0 places (omega arith) ∙ ap (λ p. digits * p) more in
-    let all = ap (λ u. u * 2 ^ 32) product ∙ ap (λ d. d * (rest * 10 ^ 9) * 2 ^ 32) (sym split) ∙ units_of_places whole part power rest nine in
+    let all = ap (λ u. u * 2 ^ 32) product ∙ ap (λ d. d * (rest * 10 ^ 9) * 2 ^ 32) (sym split) ∙ units_of_split whole part power rest nine in
     let scaled = nearest_scaled (part * rest * 2 ^ 32) (10 ^ 9) (10 ^ 9) (omega arith) in
     rw (all, nearest_shifted (whole * 2 ^ 31) (part * rest * 2 ^ 32 * 10 ^ 9) (10 ^ 18) (omega arith)) (omega arith)
 
@@ -142,3 +142,16 @@ raw_of_kept n l k up down kept many =
         | inr ge ↦ ap (λ u. min (raw_of u) (2 ^ 63)) (units_cut n l k up down kept ge)
       ]
     ]
+
+-- ---- a fraction with ten to eighteen places
+
+pub units_of_places : (digits places : ℕ) → places < 19 → units digits 0 places ≡ digits * 10 ^ (18 - places)
+units_of_places digits places h =
+    let left : 0 + 18 - places ≡ 18 - places = omega arith in
+    units_of_product digits 0 places (omega arith) ∙ ap (λ k. digits * 10 ^ k) left
+
+pub units_in_range : (digits places : ℕ) → 9 < places → digits < 2 ^ 64 → digits * 10 ^ (18 - places) < 2 ^ 31 * 10 ^ 18
+units_in_range digits places h fits =
+    let power = pow-le-pow_right {n = 10} (omega arith) {i = 18 - places} {j = 8} (omega arith) in
+    let most : digits * 10 ^ (18 - places) ≤ digits * 10 ^ 8 = mul-le-mul_left digits power in
+    omega arith

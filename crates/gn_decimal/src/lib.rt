@@ -1,8 +1,8 @@
 //! Decimal texts of fixed numbers, both ways.
 //!
-//! `read` gives the fixed number that is nearest to a decimal number, exactly, for a text of any
-//! length, and `print` writes the shortest usual text of ten places. What is printed is read as the
-//! same number, for each number there is. Both take no memory, and go over a text once.
+//! `read` gives the fixed number that is nearest to a decimal number, for a text of any length, and
+//! `print` writes the nearest number of at most ten places behind the point. What is printed is read
+//! as the same number, for each number there is. Both take no memory, and go over the text once.
 //! The crate stands on the fixed numbers of `gn_value`, and on `thiserror`.
 #![tactic(auto)]
 

@@ -123,7 +123,7 @@ fn long_magnitude(digits: u128, up: usize, down: usize) -> u64
     }
 }
 
-/// The same of a fraction with at most nine places.
+/// The raw number nearest to `digits / 10^places`, or 2^63 where it is more, at nine places or fewer.
 #[inline(always)]
 fn short_magnitude(digits: u64, places: usize) -> u64
     requires { places < 10 }
@@ -138,6 +138,15 @@ fn short_magnitude(digits: u64, places: usize) -> u64
     whole * RAW_ONE + nearest(billionths * RAW_ONE, BILLION)
 }
 
+/// The same at ten to eighteen places, where the number is in range.
+#[tactic(auto, using(crate::proofs::Units::units_of_places, crate::proofs::Units::units_in_range, crate::proofs::Units::raw_of_in_range))]
+fn medium_magnitude(digits: u64, places: usize) -> u64
+    requires { (9 < places) × (places < 19) }
+    ensures { result ≡ min (raw_of (units digits 0 places)) GREATEST }
+{
+    raw_of_units(u128::from(digits) * u128::from(power_of_ten(18 - places)))
+}
+
 /// The raw number nearest to `n * 10^up / 10^down`, or 2^63 where it is more, for the number n that the digits write.
 #[inline(always)]
 #[tactic(auto, using(crate::proofs::Units::raw_of_kept, crate::proofs::Units::units_shared))]
@@ -148,6 +157,9 @@ pub fn magnitude(digits: Significand, up: usize, down: usize) -> u64
     match digits {
         Significand::Short(number) if up <= down && down - up < 10 => {
             short_magnitude(number, down - up)
+        }
+        Significand::Short(number) if up <= down && down - up < 19 => {
+            medium_magnitude(number, down - up)
         }
         Significand::Short(number) => long_magnitude(u128::from(number), up, down),
         Significand::Long { leading, dropped } => long_magnitude(leading, up + dropped, down),
