@@ -21,6 +21,18 @@ too_large_an_exponent : num (codes "1e100") ≡ None
 unfolding nearest small_number signed_exponent exponent_of parts_of units raw_of magnitude_of num
 too_large_an_exponent = refl
 
+point_first : num (codes "+.5") ≡ Some (pos 2147483648)
+unfolding nearest small_number signed_exponent exponent_of parts_of units raw_of magnitude_of num
+point_first = refl
+
+point_last : num (codes "5.") ≡ Some (pos 21474836480)
+unfolding nearest small_number signed_exponent exponent_of parts_of units raw_of magnitude_of num
+point_last = refl
+
+two_points : num (codes "1.2.3") ≡ None
+unfolding nearest small_number signed_exponent exponent_of parts_of units raw_of magnitude_of num
+two_points = refl
+
 a_point_alone : num (codes ".") ≡ None
 unfolding nearest small_number signed_exponent exponent_of parts_of units raw_of magnitude_of num
 a_point_alone = refl

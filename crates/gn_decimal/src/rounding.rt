@@ -21,7 +21,7 @@ const OUT_OF_RANGE: u128 = 2_147_483_648_000_000_000_000_000_000;
 /// The greatest absolute value of a raw number, 2^63.
 const GREATEST: u64 = 9_223_372_036_854_775_808;
 
-/// The powers of ten that have at most nine zeros.
+/// The powers of ten up to 10^9, in their order.
 static POWERS: [u64; 10] = [
     1,
     10,
@@ -35,6 +35,7 @@ static POWERS: [u64; 10] = [
     1_000_000_000,
 ];
 
+/// A power of ten that has at most nine zeros.
 #[inline(always)]
 fn power_of_ten(exponent: usize) -> u64
     requires { exponent < 10 }
