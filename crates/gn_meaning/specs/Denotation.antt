@@ -1,6 +1,7 @@
 -- The value at each place of a tree.
 use Rattle.std.specs.Prelude.{◌≡◌, ℕ, zero, suc, List, [], ◌∷◌, Option, Some, None, map, slice_get, option_map, option_and_then}
 use Rattle.gn_value.specs.declared.value.Value.{Value}
+use Rattle.gn_plain.specs.Lists.{all_of}
 use Rattle.gn_tree.specs.Tree.{Text, Node, Tree, kind_of}
 use Rattle.gn_tree.specs.Kinds.{Default}
 use Rattle.gn_meaning.specs.Places.{Path, Place, at_output, at_input, at_constant, at_default, Way, node_of, places_read}
@@ -11,11 +12,6 @@ pub record Rows (V : Type 0) : Type 0 where
   pub row : Path → Node → List V → List V
   pub of_constant : Value → V
   pub of_default : Default → V
-
--- the values of all, where each has one
-abbrev pub all_of : {A : Type 0} → List (Option A) → Option (List A)
-all_of [] = Some []
-all_of (x ∷ xs) = option_and_then (λ v. option_map (λ vs. v ∷ vs) (all_of xs)) x
 
 module _ {V : Type 0} (rows : Rows V) (t : Tree) (given : List V) where
   -- the values at some places so far

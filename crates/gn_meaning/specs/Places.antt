@@ -1,5 +1,5 @@
 -- Where the values of a tree stand, and what an input of a node reads.
-use Rattle.std.specs.Prelude.{ℕ, List, [], ◌∷◌, ◌++◌, Option, Some, None, map, flat_map, position, find, bytes_eq, slice_get, option_map, option_and_then, codes, if◌then◌else◌}
+use Rattle.std.specs.Prelude.{ℕ, List, [], ◌∷◌, Option, Some, None, map, flat_map, position, find, bytes_eq, slice_get, option_map, option_and_then, codes, if◌then◌else◌}
 use Rattle.gn_value.specs.declared.value.Value.{Value}
 use Rattle.gn_tree.specs.Tree.{Text, Link, Input, a_constant, a_link, many_links, Named, Node, Nodes, no_nodes, one_node, Tree, id_of, kind_of, inputs_of, node_at}
 use Rattle.gn_tree.specs.Kinds.{InputSocket, Default, Row, row_of_kind}
@@ -64,14 +64,18 @@ abbrev pub socket_places : Tree → Way → InputSocket → Option Named → Lis
 socket_places t way socket None = Some (at_default socket.default) ∷ []
 socket_places t way socket (Some x) = input_places t way x.input
 
+abbrev pub input_sockets : Option Row → List InputSocket
+input_sockets None = []
+input_sockets (Some row) = row.inputs
+
+-- the input under a name, where one is written
+abbrev pub input_named : Text → List Named → Option Named
+input_named name inputs = find (λ x. bytes_eq x.name name) inputs
+
 -- what the inputs of a node read, socket by socket in the order of its kind's row
 abbrev pub places_read : Tree → Way → Node → List (Option Place)
 places_read t way x =
-    flat_map (λ socket. socket_places t way socket (find (λ i. bytes_eq i.name socket.name) (inputs_of x))) (row_inputs (row_of_kind (kind_of x)))
-  where
-    row_inputs : Option Row → List InputSocket
-    row_inputs None = []
-    row_inputs (Some row) = row.inputs
+    flat_map (λ socket. socket_places t way socket (input_named socket.name (inputs_of x))) (input_sockets (row_of_kind (kind_of x)))
 
 -- what the tree gives out
 abbrev pub output_place : Tree → Option Place

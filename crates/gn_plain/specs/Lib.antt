@@ -1,2 +1,3 @@
+pub mod Lists
 pub mod Geometry
 pub mod Field

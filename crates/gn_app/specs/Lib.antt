@@ -1,0 +1,9 @@
+pub mod Status
+pub mod Command
+pub mod Job
+pub mod Outcome
+pub mod Run
+pub mod Seen
+pub mod Steps
+pub mod Load
+pub mod Pages

@@ -1,0 +1,36 @@
+ghost use Rattle.std.specs.Prelude.{◌≡◌};
+
+/// How a run ended.
+#[derive(Clone, Copy, Debug, PartialEq, Eq)]
+pub enum Status {
+    /// The output was written whole.
+    Done,
+    /// The tree or the input is no file.
+    Absent,
+    /// A file could not be read.
+    ReadFault,
+    /// The output could not be written whole.
+    WriteFault,
+    /// The words, the tree or the input are none that the program takes yet.
+    NotBuilt,
+    /// There was no memory.
+    Memory,
+}
+
+impl Status {
+    ghost use Rattle.gn_app.specs.Status.{code_of};
+
+    /// The exit status of the process: 0 where the output was written whole.
+    pub fn code(&self) -> u8
+        ensures { result ≡ code_of self.now }
+    {
+        match self {
+            Status::Done => 0,
+            Status::Absent => 3,
+            Status::ReadFault => 4,
+            Status::WriteFault => 5,
+            Status::Memory => 10,
+            Status::NotBuilt => 11,
+        }
+    }
+}
