@@ -1,4 +1,5 @@
 pub mod Files
+pub mod MemShelf
 pub mod Outside
 pub mod Shelf
 pub mod Sink

@@ -22,3 +22,7 @@ with_name (Some names) name = Some (names ++ name ∷ [])
 abbrev pub with_bytes : Option (List ℕ) → List ℕ → Option (List ℕ)
 with_bytes None bytes = None
 with_bytes (Some held) bytes = Some (held ++ bytes)
+
+-- a count of 64 bits, which stops at its last value
+abbrev pub stopped : ℕ → ℕ
+stopped count = min count (2 ^ 64 - 1)

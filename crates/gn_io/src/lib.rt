@@ -7,9 +7,11 @@
 #![tactic(auto)]
 
 pub mod gate;
+pub mod mem_shelf;
 pub mod shelf;
 pub mod sink;
 
 pub use gate::{Gate, OpenGate};
+pub use mem_shelf::{Call, MemShelf};
 pub use shelf::{Fetched, Shelf};
 pub use sink::{Put, Sink};
