@@ -1,5 +1,6 @@
 pub mod Files
 pub mod MemShelf
+pub mod MemSink
 pub mod Outside
 pub mod Shelf
 pub mod Sink

@@ -8,10 +8,12 @@
 
 pub mod gate;
 pub mod mem_shelf;
+pub mod mem_sink;
 pub mod shelf;
 pub mod sink;
 
 pub use gate::{Gate, OpenGate};
 pub use mem_shelf::{Call, MemShelf};
+pub use mem_sink::MemSink;
 pub use shelf::{Fetched, Shelf};
 pub use sink::{Put, Sink};
