@@ -1,4 +1,5 @@
 pub mod Files
+pub mod FolderShelf
 pub mod MemShelf
 pub mod MemSink
 pub mod Outside

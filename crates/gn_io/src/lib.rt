@@ -6,12 +6,14 @@
 //! a trace there. The crate stands on `gn_memory` alone.
 #![tactic(auto)]
 
+pub mod folder_shelf;
 pub mod gate;
 pub mod mem_shelf;
 pub mod mem_sink;
 pub mod shelf;
 pub mod sink;
 
+pub use folder_shelf::FolderShelf;
 pub use gate::{Gate, OpenGate};
 pub use mem_shelf::{Call, MemShelf};
 pub use mem_sink::MemSink;

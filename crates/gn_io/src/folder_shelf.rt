@@ -1,0 +1,99 @@
+ghost use Rattle.std.specs.Prelude.{◌≡◌, ◌≤◌, None, ℕ, [], length};
+ghost use Rattle.gn_io.specs.FolderShelf.{counted, IsOnePast};
+ghost use Rattle.gn_io.specs.Shelf.{Serves};
+
+use crate::shelf::{Fetched, Shelf};
+use std::fs::File;
+use std::io;
+use std::io::{ErrorKind, Read};
+use std::fs::OpenFile;
+use std::marker::Model;
+use std::rt::Files;
+
+/// A shelf over the files below the current folder.
+///
+/// It tells nothing of what they hold. A name that no file has is `Absent`. A folder, a path
+/// through a file and every other fault of the system are `Failed`.
+#[derive(Drop)]
+pub struct FolderShelf<'a, R> {
+    rt: &'a R,
+    faults: u64,
+    misses: u64,
+}
+
+impl<'a, R> Model for FolderShelf<'a, R> {
+    ghost use Rattle.gn_io.specs.FolderShelf.{FileCounts};
+
+    ghost Value = { FileCounts };
+
+    ghost view = { λ s. record { faults = s.faults; misses = s.misses } };
+}
+
+impl<'a, R: Files> FolderShelf<'a, R> {
+    /// A shelf that reads files by this runtime and has counted nothing yet.
+    pub fn new(rt: &'a R) -> FolderShelf<'a, R>
+        ensures { result ≡ record { faults = 0; misses = 0 } }
+    {
+        FolderShelf {
+            rt,
+            faults: 0,
+            misses: 0,
+        }
+    }
+}
+
+impl<R: Files> Shelf for FolderShelf<'_, R> {
+    ghost holds = { λ _. None };
+
+    ghost asked = { λ _. None };
+
+    ghost missed = { λ _. None };
+
+    ghost faults = { λ s. s.faults };
+
+    ghost misses = { λ s. s.misses };
+
+    /// Reads the file, and of one that is longer than the limit the first `limit` bytes and one.
+    fn fetch(&mut self, name: &str, limit: u64, into: &mut Vec<u8>) -> Fetched
+        ensures serves { Serves None name.now limit into.new.items result }
+        ensures one_past { IsOnePast limit result }
+        ensures counted { self.new ≡ counted self.old result }
+        ensures faults { self.old.faults ≤ self.new.faults }
+        ensures misses { self.old.misses ≤ self.new.misses }
+    {
+        into.clear();
+        let error = match read_file(self.rt, name, limit, into) {
+            Ok(()) if into.len() as u64 <= limit => return Fetched::Whole,
+            Ok(()) => {
+                into.clear();
+                return Fetched::TooLong { length: limit + 1 };
+            }
+            Err(error) => error,
+        };
+        into.clear();
+        match error.kind() {
+            ErrorKind::OutOfMemory => Fetched::Memory,
+            ErrorKind::NotFound => {
+                self.misses = self.misses.saturating_add(1);
+                Fetched::Absent
+            }
+            _ => {
+                self.faults = self.faults.saturating_add(1);
+                Fetched::Failed
+            }
+        }
+    }
+}
+
+/// Appends the file's bytes, but no more than `limit` and one.
+fn read_file<R: Files>(rt: &R, name: &str, limit: u64, into: &mut Vec<u8>) -> io::Result<()> {
+    let file = File::open(rt, name)?;
+    let most = limit.saturating_add(1);
+    let length = file.metadata()?.len().min(most);
+    // one byte more than the file has, so that the end is found with no further room
+    if let Ok(length) = usize::try_from(length) {
+        into.reserve_exact(length.saturating_add(1))?;
+    }
+    file.take(most).read_to_end(into)?;
+    Ok(())
+}
