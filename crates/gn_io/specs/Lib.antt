@@ -5,3 +5,4 @@ pub mod MemSink
 pub mod Outside
 pub mod Shelf
 pub mod Sink
+pub mod StdSink

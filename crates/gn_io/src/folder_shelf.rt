@@ -3,10 +3,9 @@ ghost use Rattle.gn_io.specs.FolderShelf.{counted, IsOnePast};
 ghost use Rattle.gn_io.specs.Shelf.{Serves};
 
 use crate::shelf::{Fetched, Shelf};
-use std::fs::File;
+use std::fs::{File, OpenFile};
 use std::io;
 use std::io::{ErrorKind, Read};
-use std::fs::OpenFile;
 use std::marker::Model;
 use std::rt::Files;
 

@@ -12,6 +12,7 @@ pub mod mem_shelf;
 pub mod mem_sink;
 pub mod shelf;
 pub mod sink;
+pub mod std_sink;
 
 pub use folder_shelf::FolderShelf;
 pub use gate::{Gate, OpenGate};
@@ -19,3 +20,4 @@ pub use mem_shelf::{Call, MemShelf};
 pub use mem_sink::MemSink;
 pub use shelf::{Fetched, Shelf};
 pub use sink::{Put, Sink};
+pub use std_sink::StdSink;
