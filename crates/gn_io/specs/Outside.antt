@@ -9,9 +9,13 @@ Files = List ℕ → Option (List ℕ)
 abbrev pub Names : Type 0
 Names = List (List ℕ)
 
--- a count of 64 bits, which stops at its last value, went up by one or more
+-- a count of 64 bits, which stops at its last value
+abbrev pub stopped : ℕ → ℕ
+stopped count = min count (2 ^ 64 - 1)
+
+-- a count is at least what one more makes of it
 abbrev pub Rose : ℕ → ℕ → Type 0
-Rose before now = min (before + 1) (2 ^ 64 - 1) ≤ now
+Rose before now = stopped (before + 1) ≤ now
 
 -- the names where they are told, with one more at the end
 abbrev pub with_name : Option Names → List ℕ → Option Names
@@ -22,7 +26,3 @@ with_name (Some names) name = Some (names ++ name ∷ [])
 abbrev pub with_bytes : Option (List ℕ) → List ℕ → Option (List ℕ)
 with_bytes None bytes = None
 with_bytes (Some held) bytes = Some (held ++ bytes)
-
--- a count of 64 bits, which stops at its last value
-abbrev pub stopped : ℕ → ℕ
-stopped count = min count (2 ^ 64 - 1)

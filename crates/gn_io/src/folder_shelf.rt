@@ -88,11 +88,9 @@ impl<R: Files> Shelf for FolderShelf<'_, R> {
 fn read_file<R: Files>(rt: &R, name: &str, limit: u64, into: &mut Vec<u8>) -> io::Result<()> {
     let file = File::open(rt, name)?;
     let most = limit.saturating_add(1);
-    let length = file.metadata()?.len().min(most);
     // one byte more than the file has, so that the end is found with no further room
-    if let Ok(length) = usize::try_from(length) {
-        into.reserve_exact(length.saturating_add(1))?;
-    }
+    let length = file.metadata()?.len().min(most) as usize;
+    into.reserve_exact(length.saturating_add(1))?;
     file.take(most).read_to_end(into)?;
     Ok(())
 }
