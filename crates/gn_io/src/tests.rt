@@ -1,42 +1,59 @@
 use super::*;
+use std::alloc::Global;
 use std::collections::BTreeMap;
 use std::fs::File;
 use std::io::{ErrorKind, Write};
+use std::path::PathBuf;
+use std::process::Abort;
 use std::test::Fail;
 use std::{env, fs, io, process};
+
+/// Asks for each name within its limit, and compares the answer and the bytes.
+fn ask_in_turn<S: Shelf>(
+    rt: &impl Abort,
+    alloc: Global,
+    shelf: &mut S,
+    cases: &[(&str, u64, Fetched, &str)],
+) {
+    let mut into = Vec::new(alloc);
+    for (at, (name, limit, answer, bytes)) in cases.iter().enumerate() {
+        assert_eq!(rt; shelf.fetch(name, *limit, &mut into), *answer, "call {at}");
+        assert_eq!(rt; into.as_slice(), bytes.as_bytes(), "call {at}");
+    }
+}
+
+/// Puts each piece, and compares the answer.
+fn put_in_turn<S: Sink>(rt: &impl Abort, sink: &mut S, cases: &[(&str, Put)]) {
+    for (at, (piece, answer)) in cases.iter().enumerate() {
+        assert_eq!(rt; sink.put(piece.as_bytes()), *answer, "call {at}");
+    }
+}
+
+/// A map with one file, `a`, of three bytes.
+fn one_file(alloc: Global) -> Result<BTreeMap<String, Vec<u8>>, Fail> {
+    let mut files = BTreeMap::new(alloc);
+    files.insert(String::from_str(alloc, "a")?, b"123".to_vec(alloc)?)?;
+    Ok(files)
+}
 
 #[test]
 fn a_shelf_in_memory_answers_by_number_name_and_limit(rt: HostRuntime) -> Result<(), Fail> {
     let alloc = rt.alloc();
-    let mut files = BTreeMap::new(alloc);
-    files.insert(String::from_str(alloc, "a")?, [1u8, 2, 3].to_vec(alloc)?)?;
+    let files = one_file(alloc)?;
     let fail = [2u64, 7].to_vec(alloc)?;
     let miss = [3u64, 7].to_vec(alloc)?;
     let mut shelf = MemShelf::new(alloc, files, fail, miss);
     let cases = [
-        ("a", 3, Fetched::Whole),
-        ("a", 3, Fetched::Failed),
-        ("a", 3, Fetched::Absent),
-        ("b", 3, Fetched::Absent),
-        ("a", 2, Fetched::TooLong { length: 3 }),
-        ("a", u64::MAX, Fetched::Whole),
-        ("a", 3, Fetched::Failed),
+        ("a", 3, Fetched::Whole, "123"),
+        ("a", 3, Fetched::Failed, ""),
+        ("a", 3, Fetched::Absent, ""),
+        ("b", 3, Fetched::Absent, ""),
+        ("a", 2, Fetched::TooLong { length: 3 }, ""),
+        ("a", u64::MAX, Fetched::Whole, "123"),
+        ("a", 3, Fetched::Failed, ""),
     ];
-    let mut into = Vec::new(alloc);
-    for (at, (name, limit, answer)) in cases.iter().enumerate() {
-        assert_eq!(rt; shelf.fetch(name, *limit, &mut into), *answer, "call {at}");
-        let bytes = if *answer == Fetched::Whole {
-            [1u8, 2, 3].as_slice()
-        } else {
-            &[]
-        };
-        assert_eq!(rt; into.as_slice(), bytes, "call {at}");
-    }
+    ask_in_turn(&rt, alloc, &mut shelf, &cases);
     assert_eq!(rt; shelf.calls().len(), cases.len());
-    for (call, (name, _, answer)) in shelf.calls().iter().zip(cases.iter()) {
-        assert_eq!(rt; call.name.as_str(), *name);
-        assert_eq!(rt; call.answer, *answer);
-    }
     Ok(())
 }
 
@@ -46,61 +63,67 @@ fn a_sink_in_memory_takes_what_its_list_and_its_room_allow(rt: HostRuntime) -> R
     let fail = [(2u64, 1u64), (2, 9), (4, 9)].to_vec(alloc)?;
     let mut sink = MemSink::new(alloc, fail, 6)?;
     let cases = [
-        ("abc", Put::All, "abc"),
-        ("de", Put::Failed { taken: 1 }, "abcd"),
-        ("", Put::All, "abcd"),
-        ("efg", Put::Failed { taken: 2 }, "abcdef"),
-        ("g", Put::Failed { taken: 0 }, "abcdef"),
-        ("", Put::All, "abcdef"),
+        ("abc", Put::All),
+        ("de", Put::Failed { taken: 1 }),
+        ("", Put::All),
+        ("efg", Put::Failed { taken: 2 }),
+        ("g", Put::Failed { taken: 0 }),
+        ("", Put::All),
     ];
-    for (at, (piece, answer, held)) in cases.iter().enumerate() {
-        assert_eq!(rt; sink.put(piece.as_bytes()), *answer, "call {at}");
-        assert_eq!(rt; sink.held(), held.as_bytes(), "call {at}");
-    }
+    put_in_turn(&rt, &mut sink, &cases);
+    assert_eq!(rt; sink.held(), b"abcdef".as_slice());
+    Ok(())
+}
+
+/// A path below the folder, with the number of this process at its end.
+fn path_in(rt: &HostRuntime, folder: &PathBuf) -> Result<PathBuf, Fail> {
+    let alloc = rt.alloc();
+    let name = format!(in alloc; "gn_io_{}", process::id(rt.process()))?;
+    Ok(folder.join(alloc, name.as_str())?)
+}
+
+#[test]
+fn a_file_keeps_what_is_put_into_it(rt: HostRuntime) -> Result<(), Fail> {
+    let path = path_in(&rt, &env::temp_dir(&rt)?)?;
+    let file = path.as_str();
+    let mut sink = StdSink::new(File::create(&rt, file)?);
+    put_in_turn(
+        &rt,
+        &mut sink,
+        &[("ab", Put::All), ("", Put::All), ("c", Put::All)],
+    );
+    let mut read_only = StdSink::new(File::open(&rt, file)?);
+    put_in_turn(&rt, &mut read_only, &[("d", Put::Failed { taken: 0 })]);
+    let mut shelf = FolderShelf::new(&rt);
+    ask_in_turn(
+        &rt,
+        rt.alloc(),
+        &mut shelf,
+        &[(file, 3, Fetched::Whole, "abc")],
+    );
+    fs::remove_file(&rt, file)?;
     Ok(())
 }
 
 #[test]
-fn a_folder_gives_its_files(rt: HostRuntime) -> Result<(), Fail> {
+fn a_folder_gives_its_files_within_their_limits(rt: HostRuntime) -> Result<(), Fail> {
     let alloc = rt.alloc();
     let folder = env::temp_dir(&rt)?;
-    let name = format!(in alloc; "gn_io_{}", process::id(rt.process()))?;
-    let path = folder.join(alloc, name.as_str())?;
-    let file = path.as_str();
+    let path = path_in(&rt, &folder)?;
     let below = path.join(alloc, "below")?;
-    fs::write(&rt, file, "abc")?;
+    let file = path.as_str();
     let mut shelf = FolderShelf::new(&rt);
+    ask_in_turn(&rt, alloc, &mut shelf, &[(file, 9, Fetched::Absent, "")]);
+    fs::write(&rt, file, "abc")?;
     let cases = [
         (file, 3, Fetched::Whole, "abc"),
         (file, u64::MAX, Fetched::Whole, "abc"),
         (file, 2, Fetched::TooLong { length: 3 }, ""),
-        (file, 0, Fetched::TooLong { length: 1 }, ""),
         (folder.as_str(), 9, Fetched::Failed, ""),
         (below.as_str(), 9, Fetched::Failed, ""),
     ];
-    let mut into = Vec::new(alloc);
-    for (at, (name, limit, answer, bytes)) in cases.iter().enumerate() {
-        assert_eq!(rt; shelf.fetch(name, *limit, &mut into), *answer, "call {at}");
-        assert_eq!(rt; into.as_slice(), bytes.as_bytes(), "call {at}");
-    }
+    ask_in_turn(&rt, alloc, &mut shelf, &cases);
     fs::remove_file(&rt, file)?;
-    assert_eq!(rt; shelf.fetch(file, 9, &mut into), Fetched::Absent);
-    Ok(())
-}
-
-#[test]
-fn a_file_takes_what_is_put_into_it(rt: HostRuntime) -> Result<(), Fail> {
-    let alloc = rt.alloc();
-    let name = format!(in alloc; "gn_io_sink_{}", process::id(rt.process()))?;
-    let path = env::temp_dir(&rt)?.join(alloc, name.as_str())?;
-    let mut sink = StdSink::new(File::create(&rt, path.as_str())?);
-    assert_eq!(rt; sink.put(b"ab"), Put::All);
-    assert_eq!(rt; sink.put(b""), Put::All);
-    assert_eq!(rt; sink.put(b"c"), Put::All);
-    assert_eq!(rt; fs::read_to_string(&rt, path.as_str())?.as_str(), "abc");
-    let mut closed = StdSink::new(File::open(&rt, path.as_str())?);
-    assert_eq!(rt; closed.put(b"d"), Put::Failed { taken: 0 });
-    fs::remove_file(&rt, path.as_str())?;
     Ok(())
 }
 
@@ -146,9 +169,7 @@ fn a_writer_is_asked_until_it_has_all_or_fails(rt: HostRuntime) {
         ("hi", Put::Failed { taken: 2 }),
         ("j", Put::All),
     ];
-    for (at, (piece, answer)) in cases.iter().enumerate() {
-        assert_eq!(rt; sink.put(piece.as_bytes()), *answer, "call {at}");
-    }
+    put_in_turn(&rt, &mut sink, &cases);
 }
 
 fn pass_by_shared<G: Gate + Sync>(gate: &G) {
