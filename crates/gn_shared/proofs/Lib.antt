@@ -1,1 +1,5 @@
 mod CountRows
+mod MachineRows
+pub mod Lists
+pub mod Kept
+pub mod Laws

@@ -1,1 +1,4 @@
 pub mod Count
+pub mod Machine
+pub mod Sharing
+pub mod Events
