@@ -1,3 +1,4 @@
+pub mod Arrays
 pub mod Count
 pub mod Machine
 pub mod Sharing

@@ -1,0 +1,10 @@
+pub mod Names
+pub mod Parts
+pub mod Steps
+pub mod Lending
+pub mod Fields
+pub mod Halves
+pub mod Opening
+pub mod RawValues
+pub mod Naming
+pub mod Sent
