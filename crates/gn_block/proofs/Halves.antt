@@ -19,14 +19,13 @@ use denote.Struct.Struct.{Struct}
 use denote.Struct.Laws.{u64-laws}
 use denote.Struct.Members.{Member, row_of, rows_of, parts_at}
 use denote.Struct.Parts.{PartsBack, Struct-parts, shape_of}
-use Rattle.libc.specs.Heap.{chunk}
 use Rattle.core.specs.Sync.RawAtomic.{word}
 use Rattle.core.proofs.cell.Borrows.{flag}
 use Rattle.core.proofs.tally.Steps.{word_out, word_in}
 use Rattle.counted_slot.specs.Counting.{offset, idle}
 use Rattle.gn_block.specs.Sharing.{Round, all_of_it}
 use Rattle.gn_block.specs.Blocks.{rejoins, lent}
-use Rattle.gn_block.specs.Whole.{whole, loose_owns}
+use Rattle.gn_block.specs.Whole.{right_to_free, whole, loose_owns}
 use Rattle.gn_block.specs.contracts.block.Core as core
 
 module _ {M : Type 1} {𝓤 : Ura M} (𝓛 : Logic 𝓤) (R : RattleType) where
@@ -35,7 +34,7 @@ module _ {M : Type 1} {𝓤 : Ura M} (𝓛 : Logic 𝓤) (R : RattleType) where
   pub loose_placed : (p : Ptr) (n : ℕ) (x : R.Denot) (δ : GName) → ent 𝓤 (sem 𝓛 (loose_owns R p n x δ)) (fact 𝓤 (InBlock p))
   loose_placed (block_ptr b o) n x δ = fact_i 𝓤 (Unit {0}) _ tt
   loose_placed null_ptr n x δ =
-      let W = sem 𝓛 (whole R null_ptr n x) in let T = sem 𝓛 (chunk (bare (lone (core.the_row R).mir)) null_ptr) in
+      let W = sem 𝓛 (whole R null_ptr n x) in let T = sem 𝓛 (right_to_free (bare (lone (core.the_row R).mir)) null_ptr) in
       via 𝓤 W (fst∗ 𝓤 W (sem 𝓛 (idle δ))) (via 𝓤 (never 𝓤) (fst∗ 𝓤 (never 𝓤) T) (never_e 𝓤 _))
 
   -- the last handle's block
@@ -68,7 +67,7 @@ module _ {M : Type 1} {𝓤 : Ura M} (𝓛 : Logic 𝓤) (m : Member) (L : Lawfu
   Data = Struct (shape_of ν ks)
 
   abbrev token : Fml
-  token = chunk (bare (lone CoreRow.mir)) (block_ptr b o)
+  token = right_to_free (bare (lone CoreRow.mir)) (block_ptr b o)
 
   abbrev Fields : ℕ × R.Denot → Fml
   Fields s = part_at Data full_share (s.0, (s.1, tt)) b o

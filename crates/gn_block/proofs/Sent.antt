@@ -13,13 +13,13 @@ use denote.Struct.Struct.{Struct}
 use denote.Struct.Declared.{shape}
 use denote.Param.Send.{IsSend, IsSync, part_keyless, struct_send, recorded_send, sendable}
 use types.Keyed.{entry_keyless}
-use Rattle.libc.specs.Heap.{chunk-Keyless}
+use Rattle.std.proofs.Crossing.{frees}
 use Rattle.atomic_table.specs.Seated.{halved}
 use Rattle.atomic_table.proofs.Sent.{roster_keyless}
 use Rattle.counted_slot.specs.Counting.{offset}
 use Rattle.gn_block.specs.Sharing.{Round, while_alive}
 use Rattle.gn_block.specs.Blocks.{lent, handle_owns, handle_shares}
-use Rattle.gn_block.specs.Whole.{whole}
+use Rattle.gn_block.specs.Whole.{heap, whole}
 use Rattle.gn_block.specs.contracts.block.Core as core
 
 module _ (R : RattleType) (s : IsSend R) (y : IsSync R) where
@@ -34,7 +34,7 @@ module _ (R : RattleType) (s : IsSend R) (y : IsSync R) where
     part_keyless R s full_share x b (o + offset R),
     λ z. (
       (tt, part_keyless R s full_share z.1 b (o + offset R)),
-      (part_keyless (core.the_row R) core_send full_share (record { users = z.0; value = z.1 }) b o, chunk-Keyless (raw (lone (core.the_row R).mir)) (block_ptr b o)),
+      (part_keyless (core.the_row R) core_send full_share (record { users = z.0; value = z.1 }) b o, frees.frees heap (raw (lone (core.the_row R).mir)) (block_ptr b o)),
     ),
   )
 

@@ -7,8 +7,7 @@
 //! block's name is its only owner. All raw steps on shared arrays are in this crate, proved by hand
 //! in twelve small functions; what stands above it is safe code.
 //!
-//! The crate stands on `core`, `libc` and `std_alloc`, and its proofs on `atomic_table` and
-//! `counted_slot`.
+//! The crate stands on `core` and `std_alloc`, and its proofs on `atomic_table` and `counted_slot`.
 #![tactic(auto)]
 
 pub mod block;
