@@ -6,3 +6,5 @@ pub mod Telling
 pub mod Preparing
 pub mod PageLemmas
 pub mod Meaning
+pub mod Running
+pub mod Spelling

@@ -1,0 +1,7 @@
+use Rattle.std.proofs.Common.{refl, ap}
+use Rattle.gn_app.proofs.Running.{evaluated}
+use Rattle.gn_app.proofs.command.run_eval.Goals as goal
+
+pub returns-in-Ok : goal.returns-in-Ok
+returns-in-Ok g c =
+    evaluated _ _ _ c.in-Ok.ensures.goes (record { messages = refl; runs = ap (λ m. m.runs) c.evaluate.ensures.noted; copies = ap (λ m. m.copies) c.evaluate.ensures.noted }) c.in-Ok.prepared c.in-Ok.ensures.prepares c.evaluate.result c.evaluate.ensures.ended
