@@ -5,6 +5,7 @@ use std::fs::File;
 use std::io::{ErrorKind, Write};
 use std::path::PathBuf;
 use std::process::Abort;
+use std::rt::Files;
 use std::test::Fail;
 use std::{env, fs, io, process};
 
@@ -29,20 +30,19 @@ fn put_in_turn<S: Sink>(rt: &impl Abort, sink: &mut S, cases: &[(&str, Put)]) {
     }
 }
 
-/// A map with one file, `a`, of three bytes.
-fn one_file(alloc: Global) -> Result<BTreeMap<String, Vec<u8>>, Fail> {
+/// A shelf with one file, `a`, of three bytes, and with these faults.
+fn one_file(alloc: Global, fail: &[u64], miss: &[u64]) -> Result<MemShelf, Fail> {
     let mut files = BTreeMap::new(alloc);
     files.insert(String::from_str(alloc, "a")?, b"123".to_vec(alloc)?)?;
-    Ok(files)
+    let fail = fail.to_vec(alloc)?;
+    let miss = miss.to_vec(alloc)?;
+    Ok(MemShelf::new(alloc, files, fail, miss))
 }
 
 #[test]
 fn a_shelf_in_memory_answers_by_number_name_and_limit(rt: HostRuntime) -> Result<(), Fail> {
     let alloc = rt.alloc();
-    let files = one_file(alloc)?;
-    let fail = [2u64, 7].to_vec(alloc)?;
-    let miss = [3u64, 7].to_vec(alloc)?;
-    let mut shelf = MemShelf::new(alloc, files, fail, miss);
+    let mut shelf = one_file(alloc, &[2, 7], &[3, 7])?;
     let cases = [
         ("a", 3, Fetched::Whole, "123"),
         ("a", 3, Fetched::Failed, ""),
@@ -75,54 +75,61 @@ fn a_sink_in_memory_takes_what_its_list_and_its_room_allow(rt: HostRuntime) -> R
     Ok(())
 }
 
-/// A path below the folder, with the number of this process at its end.
-fn path_in(rt: &HostRuntime, folder: &PathBuf) -> Result<PathBuf, Fail> {
+/// A path in the folder for temporary files, with the number of this process at its end.
+fn temporary_path(rt: &HostRuntime) -> Result<PathBuf, Fail> {
     let alloc = rt.alloc();
     let name = format!(in alloc; "gn_io_{}", process::id(rt.process()))?;
-    Ok(folder.join(alloc, name.as_str())?)
+    Ok(env::temp_dir(rt)?.join(alloc, name.as_str())?)
+}
+
+/// Asks a shelf of the current folder for each name.
+fn ask_folder<R: AllocGlobal + Files + Abort>(rt: &R, cases: &[(&str, u64, Fetched, &str)]) {
+    let mut shelf = FolderShelf::new(rt);
+    ask_in_turn(rt, rt.alloc(), &mut shelf, cases);
+}
+
+/// Puts each piece into the file.
+fn put_into(rt: &impl Abort, file: File, cases: &[(&str, Put)]) {
+    let mut sink = StdSink::new(file);
+    put_in_turn(rt, &mut sink, cases);
 }
 
 #[test]
 fn a_file_keeps_what_is_put_into_it(rt: HostRuntime) -> Result<(), Fail> {
-    let path = path_in(&rt, &env::temp_dir(&rt)?)?;
+    let path = temporary_path(&rt)?;
     let file = path.as_str();
-    let mut sink = StdSink::new(File::create(&rt, file)?);
-    put_in_turn(
+    let pieces = [("ab", Put::All), ("", Put::All), ("c", Put::All)];
+    put_into(&rt, File::create(&rt, file)?, &pieces);
+    put_into(
         &rt,
-        &mut sink,
-        &[("ab", Put::All), ("", Put::All), ("c", Put::All)],
+        File::open(&rt, file)?,
+        &[("d", Put::Failed { taken: 0 })],
     );
-    let mut read_only = StdSink::new(File::open(&rt, file)?);
-    put_in_turn(&rt, &mut read_only, &[("d", Put::Failed { taken: 0 })]);
-    let mut shelf = FolderShelf::new(&rt);
-    ask_in_turn(
-        &rt,
-        rt.alloc(),
-        &mut shelf,
-        &[(file, 3, Fetched::Whole, "abc")],
-    );
+    ask_folder(&rt, &[(file, 3, Fetched::Whole, "abc")]);
     fs::remove_file(&rt, file)?;
     Ok(())
 }
 
 #[test]
 fn a_folder_gives_its_files_within_their_limits(rt: HostRuntime) -> Result<(), Fail> {
-    let alloc = rt.alloc();
-    let folder = env::temp_dir(&rt)?;
-    let path = path_in(&rt, &folder)?;
-    let below = path.join(alloc, "below")?;
+    let path = temporary_path(&rt)?;
+    let below = path.join(rt.alloc(), "below")?;
     let file = path.as_str();
-    let mut shelf = FolderShelf::new(&rt);
-    ask_in_turn(&rt, alloc, &mut shelf, &[(file, 9, Fetched::Absent, "")]);
+    ask_folder(
+        &rt,
+        &[
+            (file, 9, Fetched::Absent, ""),
+            (".", 9, Fetched::Failed, ""),
+        ],
+    );
     fs::write(&rt, file, "abc")?;
     let cases = [
         (file, 3, Fetched::Whole, "abc"),
         (file, u64::MAX, Fetched::Whole, "abc"),
         (file, 2, Fetched::TooLong { length: 3 }, ""),
-        (folder.as_str(), 9, Fetched::Failed, ""),
         (below.as_str(), 9, Fetched::Failed, ""),
     ];
-    ask_in_turn(&rt, alloc, &mut shelf, &cases);
+    ask_folder(&rt, &cases);
     fs::remove_file(&rt, file)?;
     Ok(())
 }
