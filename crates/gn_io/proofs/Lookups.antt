@@ -1,9 +1,8 @@
 -- A look-up in a map whose keys are texts is one in the list of its names and bytes.
-use Rattle.std.specs.Prelude.{◌≡◌, ℕ, List, [], ◌∷◌, map, Option, Some, None, option_map, cond, true, false, bytes_eq, refl}
+use Rattle.std.specs.Prelude.{◌≡◌, ℕ, List, [], ◌∷◌, map, Some, option_map, cond, true, false, bytes_eq, refl}
 use Rattle.std.specs.Cmp.Lexicographic.{slice_cmp}
 use Rattle.std.specs.Map.{lookup}
 use Rattle.std.specs.Ordering.{is_eq, nat_cmp}
-use Rattle.std.proofs.Common.{arith}
 use Rattle.std.proofs.lemmas.Map.Text.{is_eq-slice_cmp}
 
 module _ {K A B : Type 0} (name_of : K → List ℕ) (bytes_of : A → B) (name : List ℕ) where

@@ -1,5 +1,5 @@
 -- What a shelf that tells nothing owes by its counts alone.
-use Rattle.std.specs.Prelude.{◌≡◌, ℕ, List, None, refl}
+use Rattle.std.specs.Prelude.{ℕ, List, None, refl}
 use Rattle.std.proofs.Common.{inl, arith}
 use Rattle.gn_io.specs.declared.shelf.Fetched.{Fetched}
 use Rattle.gn_io.specs.declared.shelf.Fetched.TheVariants.{Whole, Absent, TooLong, Failed, Memory}

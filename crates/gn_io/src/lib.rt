@@ -1,9 +1,10 @@
 //! The outside of the evaluator: where bytes come from and where they go.
 //!
 //! A shelf gives the files that are asked for by name, a sink takes bytes, and a gate is told which
-//! node begins and ends. Each may tell what it holds, and what it tells is what the contracts speak
-//! of. A fault comes only where a count of faults rose, so no answer is laid on the outside without
-//! a trace there. The crate stands on `gn_memory` alone.
+//! node begins and ends. What a shelf or a sink tells of itself, its contract ties to each answer. A
+//! call answers that it failed, or that it found no file, only where a count rose in that call, even
+//! where nothing else is told. There is a shelf and a sink in memory, which tell everything, and one
+//! of each over the system, which are the trusted edge. The crate stands on `gn_memory` alone.
 #![tactic(auto)]
 
 pub mod folder_shelf;
