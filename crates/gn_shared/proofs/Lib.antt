@@ -3,3 +3,4 @@ mod MachineRows
 pub mod Lists
 pub mod Kept
 pub mod Laws
+pub mod Writing

@@ -15,6 +15,7 @@
 pub mod array;
 pub mod meter;
 pub mod world;
+pub mod write;
 
 pub use array::{AtLimit, InUse, NoRoom, SharedArray, USERS};
 pub use meter::Meter;
