@@ -25,3 +25,6 @@ mod write;
 
 pub use command::{run, run_alone};
 pub use status::Status;
+
+#[cfg(test)]
+mod tests;

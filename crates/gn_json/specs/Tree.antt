@@ -2,16 +2,16 @@
 -- {"format": 1, "nodes": [{"id": ID, "kind": "set_position", "in": {
 --   "geometry": {"from": "input", "socket": "geometry"}, "offset": [X, Y, Z]}}],
 --  "output": {"from": ID, "socket": "geometry"}}
-use Rattle.std.specs.Prelude.{ℕ, ◌+◌, ◌==◌, ◌&&◌, ◌||◌, nat_le, nat_lt, not, Bool, true, false, List, [], ◌∷◌, length, codes, bytes_eq, Option, Some, None, option_map, option_and_then, is_some, if◌then◌else◌}
+use Rattle.std.specs.Prelude.{ℕ, ◌+◌, ◌==◌, ◌&&◌, ◌||◌, nat_le, nat_lt, not, Bool, false, List, [], ◌∷◌, length, codes, bytes_eq, Option, Some, None, option_map, option_and_then, if◌then◌else◌}
 use Rattle.std.specs.List.{list_all}
 use Rattle.std.specs.Str.{is_utf8}
-use Rattle.serde_json.specs.Data.{Data, array, object, Items, no_items, item, Members, no_members, member}
+use Rattle.serde_json.specs.Data.{Data, object, Items, no_items, item, Members, no_members, member}
 use Rattle.serde_json.specs.Read.{read}
-use Rattle.serde_json.specs.Find.{get, as_str, as_array, as_object, as_number, as_u64}
+use Rattle.serde_json.specs.Find.{get, as_str, as_array, as_number, as_u64}
 use Rattle.gn_value.specs.declared.vector.V3.{V3}
 use Rattle.gn_value.specs.declared.value.Value.TheVariants.{Vector as vector}
 use Rattle.gn_obj.specs.Read.{vector_of}
-use Rattle.gn_tree.specs.Tree.{Text, Link, a_constant, a_link, Named, node, no_settings, no_nodes, one_node, Tree}
+use Rattle.gn_tree.specs.Tree.{Text, a_constant, a_link, node, no_settings, no_nodes, one_node, Tree}
 
 -- the JSON value that the bytes are
 abbrev pub json : List ℕ → Option Data

@@ -1,5 +1,5 @@
 -- Which nodes have to run.
-use Rattle.std.specs.Prelude.{◌≡◌, ◌↔◌, ℕ, List, [], ◌∷◌, Option, Some, slice_get, Contains}
+use Rattle.std.specs.Prelude.{◌≡◌, ◌↔◌, ℕ, List, [], ◌∷◌, Some, slice_get, Contains}
 use Rattle.gn_tree.specs.Tree.{Node, Tree}
 use Rattle.gn_meaning.specs.Places.{Path, Place, at_output, node_of, places_read, output_place}
 

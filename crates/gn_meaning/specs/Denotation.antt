@@ -1,10 +1,10 @@
 -- The value at each place of a tree.
-use Rattle.std.specs.Prelude.{◌≡◌, ℕ, zero, suc, List, [], ◌∷◌, Option, Some, None, map, slice_get, option_map, option_and_then}
+use Rattle.std.specs.Prelude.{◌≡◌, ℕ, zero, suc, List, [], ◌∷◌, Option, Some, None, map, slice_get, option_and_then}
 use Rattle.gn_value.specs.declared.value.Value.{Value}
 use Rattle.gn_plain.specs.Lists.{all_of}
-use Rattle.gn_tree.specs.Tree.{Text, Node, Tree, kind_of}
+use Rattle.gn_tree.specs.Tree.{Node, Tree}
 use Rattle.gn_tree.specs.Kinds.{Default}
-use Rattle.gn_meaning.specs.Places.{Path, Place, at_output, at_input, at_constant, at_default, Way, node_of, places_read}
+use Rattle.gn_meaning.specs.Places.{Path, Place, at_output, at_input, at_constant, at_default, node_of, places_read}
 
 -- what the kinds of nodes do, over values of some type
 pub record Rows (V : Type 0) : Type 0 where

@@ -1,9 +1,9 @@
 -- Values of fields, by computation.
-use Rattle.std.proofs.Common.{◌≡◌, ℕ, List, [], ◌∷◌, pos, refl}
+use Rattle.std.proofs.Common.{◌≡◌, ℕ, [], ◌∷◌, pos, refl}
 use Rattle.gn_value.specs.declared.value.Value.TheVariants.{Vector as vector, Int as int}
 use Rattle.gn_value.specs.declared.value.Place.TheVariants.{Point, Face}
 use Rattle.gn_value.specs.Values.{v3}
-use Rattle.gn_plain.specs.Geometry.{Corner, Mesh, Geometry}
+use Rattle.gn_plain.specs.Geometry.{Corner, Geometry}
 use Rattle.gn_plain.specs.Field.{value_at, constant, input, position}
 
 abbrev corner : ℕ → Corner

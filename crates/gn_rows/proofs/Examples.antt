@@ -1,14 +1,14 @@
 -- A tree of one Set Position, and what it means, by computation.
-use Rattle.std.proofs.Common.{◌≡◌, ℕ, ◌*◌, ◌^◌, List, [], ◌∷◌, Option, Some, None, codes, pos, true, false, refl, ◌-◌}
+use Rattle.std.proofs.Common.{◌≡◌, ℕ, ◌*◌, ◌^◌, List, [], ◌∷◌, Some, codes, pos, true, false, refl, ◌-◌}
 use Rattle.gn_value.specs.declared.vector.V3.{V3}
 use Rattle.gn_value.specs.declared.value.Value.TheVariants.{Truth as truth, Vector as vector}
 use Rattle.gn_value.specs.Values.{v3}
 use Rattle.gn_plain.specs.Geometry.{Geometry}
 use Rattle.gn_plain.specs.Field.{constant, input, position}
-use Rattle.gn_tree.specs.Tree.{Input, a_constant, a_link, Named, Node, node, no_settings, no_nodes, one_node, Tree}
-use Rattle.gn_meaning.specs.Places.{Place, at_output, at_input, output_place, places_read}
+use Rattle.gn_tree.specs.Tree.{a_constant, a_link, node, no_settings, no_nodes, one_node, Tree}
+use Rattle.gn_meaning.specs.Places.{at_output, output_place}
 use Rattle.gn_meaning.specs.Denotation.{value_within}
-use Rattle.gn_rows.specs.Carried.{Carried, a_geometry, a_field}
+use Rattle.gn_rows.specs.Carried.{a_geometry, a_field}
 use Rattle.gn_rows.specs.SetPosition.{set_position}
 use Rattle.gn_rows.specs.Library.{library}
 

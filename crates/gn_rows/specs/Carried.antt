@@ -1,6 +1,6 @@
 -- What a link carries.
 use Rattle.gn_plain.specs.Geometry.{Geometry, empty}
-use Rattle.gn_plain.specs.Field.{Field, constant}
+use Rattle.gn_plain.specs.Field.{Field}
 use Rattle.gn_tree.specs.Kinds.{Default, empty_geometry, the_field}
 
 pub data Carried : Type 0 where

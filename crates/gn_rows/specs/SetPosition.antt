@@ -1,5 +1,5 @@
 -- Set Position: each vertex that is selected goes to the position and the offset together.
-use Rattle.std.specs.Prelude.{ℕ, Bool, true, false, List, [], ◌∷◌, map, if◌then◌else◌}
+use Rattle.std.specs.Prelude.{ℕ, true, List, [], ◌∷◌, map}
 use Rattle.std.specs.List.{enumerate_from}
 use Rattle.gn_value.specs.declared.vector.V3.{V3}
 use Rattle.gn_value.specs.declared.value.Value.{Value}

@@ -1,5 +1,5 @@
 -- The table of kinds, by computation.
-use Rattle.std.proofs.Common.{◌≡◌, ℕ, List, [], ◌∷◌, Option, Some, None, map, codes, refl}
+use Rattle.std.proofs.Common.{◌≡◌, [], ◌∷◌, Some, None, map, codes, refl}
 use Rattle.std.specs.Prelude.{option_map}
 use Rattle.gn_tree.specs.Kinds.{row_of_kind}
 use Rattle.gn_tree.specs.Tree.{node_at, node, no_settings, no_nodes, one_node}

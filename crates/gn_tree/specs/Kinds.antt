@@ -1,6 +1,5 @@
 -- The table of kinds: the sockets of each kind of node.
-use Rattle.std.specs.Prelude.{ℕ, Bool, true, false, List, [], ◌∷◌, Option, codes, find, bytes_eq}
-use Rattle.gn_value.specs.declared.value.Value.{Value}
+use Rattle.std.specs.Prelude.{true, List, [], ◌∷◌, Option, codes, find, bytes_eq}
 use Rattle.gn_value.specs.declared.value.Value.TheVariants.{Truth as truth}
 use Rattle.gn_value.specs.declared.value.ValueKind.{ValueKind}
 use Rattle.gn_value.specs.declared.value.ValueKind.TheVariants.{Truth, Vector}
