@@ -8,7 +8,6 @@
 use gn_app::{Status, run};
 use gn_io::{FolderShelf, OpenGate, StdSink};
 use gn_shared::Meter;
-use std::alloc::Global;
 use std::env;
 use std::io::ErrorKind;
 use std::process::ExitCode;

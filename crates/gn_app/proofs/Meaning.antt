@@ -1,17 +1,17 @@
 -- What a tree with one node that moves means.
-use Rattle.std.proofs.Common.{◌≡◌, ℕ, zero, suc, ◌+◌, ◌<◌, Bool, true, false, List, [], ◌∷◌, ◌++◌, length, map, drop, get_or, Option, Some, None, refl, sym, ap, ◌∙◌, subst, arith, codes, ◌↔◌, Contains, pos, add-one, lit<}
+use Rattle.std.proofs.Common.{◌≡◌, ℕ, zero, suc, ◌+◌, true, false, List, [], ◌∷◌, map, drop, get_or, Some, refl, sym, ap, ◌∙◌, subst, arith, codes, ◌↔◌, Contains, pos, add-one, lit<}
 use Rattle.gn_tree.specs.Kinds.{the_field}
-use Rattle.std.specs.Prelude.{bytes_eq, slice_get, slice_index_or}
+use Rattle.std.specs.Prelude.{bytes_eq, slice_get}
 use Rattle.std.specs.List.{enumerate_from}
 use Rattle.gn_value.specs.declared.vector.V3.{V3}
 use Rattle.gn_value.specs.declared.value.Value.TheVariants.{Truth as truth, Vector as vector}
 use Rattle.gn_value.specs.Values.{v3}
-use Rattle.gn_plain.specs.Geometry.{Mesh, Geometry}
+use Rattle.gn_plain.specs.Geometry.{Mesh}
 use Rattle.gn_plain.specs.Field.{constant, input, position}
-use Rattle.gn_tree.specs.Tree.{Text, Tree, Node, node, no_settings, a_link, a_constant}
+use Rattle.gn_tree.specs.Tree.{Node, node, no_settings, a_link, a_constant}
 use Rattle.gn_meaning.specs.Places.{Path, Place, at_output, at_input, at_constant, at_default, output_place, node_of, places_read}
-use Rattle.gn_meaning.specs.Denotation.{StandsAt, value_within}
-use Rattle.gn_meaning.specs.Demand.{Wanted, the_output, an_input, Demanded, ListsDemand, AllDiffer}
+use Rattle.gn_meaning.specs.Denotation.{value_within}
+use Rattle.gn_meaning.specs.Demand.{Wanted, the_output, an_input, Demanded}
 use Rattle.gn_rows.specs.Carried.{a_geometry}
 use Rattle.gn_rows.specs.SetPosition.{vector_sum, moved_vertex}
 use Rattle.gn_rows.specs.Library.{library}

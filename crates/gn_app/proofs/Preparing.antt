@@ -1,5 +1,5 @@
 -- What reading the files of a command comes to.
-use Rattle.std.proofs.Common.{◌≡◌, ◌⊎◌, inl, inr, ℕ, ◌≤◌, Bool, true, false, cond, List, [], ◌∷◌, ◌++◌, length, take, Option, Some, None, Result, Ok, Err, refl, sym, ap, subst, ◌∙◌, arith, IfSome, append_assoc, append-nil, codes}
+use Rattle.std.proofs.Common.{◌≡◌, ◌⊎◌, inl, inr, ℕ, ◌≤◌, Bool, true, false, cond, List, [], ◌∷◌, length, take, Option, Some, None, Result, Ok, Err, refl, sym, ap, subst, ◌∙◌, arith, IfSome, append_assoc, append-nil, codes}
 use Rattle.std.specs.Prelude.{bytes_eq, option_map, option_and_then, not, ◌&&◌}
 use Rattle.gn_value.specs.declared.vector.V3.{V3}
 use Rattle.gn_io.specs.Outside.{Files, Names, with_name, Rose}
@@ -17,10 +17,10 @@ use Rattle.gn_app.specs.declared.load.Prepared.{Prepared}
 use Rattle.gn_app.specs.declared.mesh.Mesh.{Mesh}
 use Rattle.gn_app.specs.Seen.{mesh_of}
 use Rattle.gn_app.specs.Command.{eval, files_of}
-use Rattle.gn_app.specs.Job.{Refusal, refused, Subject, the_tree, the_input, content, read_as, Giving, job, with_tree, with_input, tree_limit, input_limit}
-use Rattle.gn_app.specs.Outcome.{WhereTold, with_names, files_until}
+use Rattle.gn_app.specs.Job.{Refusal, refused, the_tree, the_input, read_as, Giving, job, with_tree, with_input, tree_limit, input_limit}
+use Rattle.gn_app.specs.Outcome.{WhereTold, with_names}
 use Rattle.gn_app.specs.Run.{Seen, Told}
-use Rattle.gn_app.specs.Load.{Goes, Asked, Missed, Tried, Holds, Gives, Refuses, TreeRead, ReadsInput, OwnInput, job_of, IsPrepared, IsRefused, IsFaulty, IsCutShort, IsMissing, Prepares}
+use Rattle.gn_app.specs.Load.{Goes, Asked, Tried, Holds, Gives, Refuses, TreeRead, ReadsInput, OwnInput, job_of, IsCutShort, Prepares}
 use Rattle.gn_app.proofs.Telling.{gives_whole, gives_absent, same_bytes, told_same, told_more}
 
 -- ---- names

@@ -1,5 +1,5 @@
 -- What a run of a command comes to.
-use Rattle.std.proofs.Common.{◌≡◌, ◌⊎◌, inl, inr, ℕ, ◌+◌, ◌≤◌, List, [], ◌∷◌, take, Option, Some, None, Result, Ok, Err, refl, sym, ap, subst, ◌∙◌, arith, IfOk, IfErr}
+use Rattle.std.proofs.Common.{◌≡◌, ◌⊎◌, inl, inr, ◌+◌, take, Option, Some, None, Result, Ok, Err, refl, sym, ap, subst, ◌∙◌, arith, IfOk}
 use Rattle.gn_io.specs.Outside.{Files, Names, with_bytes, Rose}
 use Rattle.gn_obj.specs.Written.{obj_text}
 use Rattle.gn_app.specs.declared.status.Status.{Status}
@@ -7,10 +7,10 @@ use Rattle.gn_app.specs.declared.status.Status.TheVariants.{Done, Absent, ReadFa
 use Rattle.gn_app.specs.declared.load.Prepared.{Prepared}
 use Rattle.gn_app.specs.Seen.{mesh_of}
 use Rattle.gn_app.specs.Command.{Command}
-use Rattle.gn_app.specs.Job.{Job, Refusal, refused, Subject, Giving, job}
-use Rattle.gn_app.specs.Outcome.{WhereTold, status_of, EndsAs, AsksUntil, Writes, WritesAll, WritesPart, Runs, RunsAll}
-use Rattle.gn_app.specs.Run.{Seen, Outside, Told, IsRunOf}
-use Rattle.gn_app.specs.Load.{Goes, IsPrepared, IsRefused, IsMissing, IsFaulty, IsCutShort, Prepares, Evaluates, job_of, moved_mesh, moved_text}
+use Rattle.gn_app.specs.Job.{Job, Refusal, refused, Giving, job}
+use Rattle.gn_app.specs.Outcome.{WhereTold, status_of, EndsAs, AsksUntil, Writes, Runs}
+use Rattle.gn_app.specs.Run.{Outside, Told, IsRunOf}
+use Rattle.gn_app.specs.Load.{Goes, IsPrepared, Prepares, Evaluates, job_of, moved_mesh, moved_text}
 use Rattle.gn_app.proofs.Meaning.{denotes_moved, counts_one}
 
 -- a fact of what names give, from another

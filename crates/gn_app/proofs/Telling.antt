@@ -1,11 +1,11 @@
 -- What names give, where a shelf tells.
-use Rattle.std.proofs.Common.{◌≡◌, ℕ, ◌+◌, ◌-◌, ◌<◌, ◌≤◌, Bool, true, false, cond, List, [], ◌∷◌, ◌++◌, length, drop, Option, Some, None, Result, Ok, Err, refl, sym, ap, subst, ◌∙◌, arith, IfSome}
+use Rattle.std.proofs.Common.{◌≡◌, ℕ, ◌<◌, ◌≤◌, true, false, List, [], ◌∷◌, length, Option, Some, None, refl, sym, subst, arith, IfSome}
 use Rattle.std.specs.Prelude.{IsSomeAnd, bytes_eq, nat_le}
 use Rattle.gn_io.specs.Outside.{Files, Names, with_name}
-use Rattle.gn_io.specs.Files.{FileAnswer, whole, absent, too_long, file_answer, file_within, gained, is_among}
+use Rattle.gn_io.specs.Files.{file_answer, file_within, is_among}
 use Rattle.gn_tree.specs.Tree.{Text}
 use Rattle.gn_app.specs.declared.status.Status.TheVariants.{Absent, NotBuilt}
-use Rattle.gn_app.specs.Job.{Refusal, Subject, content, read_as, refused, Giving}
+use Rattle.gn_app.specs.Job.{Subject, content, read_as, refused, Giving}
 use Rattle.gn_app.specs.Outcome.{WhereTold}
 use Rattle.gn_app.specs.Load.{Gives, Holds, IsLong}
 use Rattle.std.proofs.lemmas.Bool.Decides.{nat_tests}

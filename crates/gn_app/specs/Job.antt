@@ -6,7 +6,7 @@ use Rattle.gn_io.specs.Files.{FileAnswer, whole, absent, too_long}
 use Rattle.gn_meaning.specs.Places.{Place, Path, output_place}
 use Rattle.gn_meaning.specs.Denotation.{StandsAt}
 use Rattle.gn_meaning.specs.Demand.{ListsDemand}
-use Rattle.gn_rows.specs.Carried.{Carried, a_geometry}
+use Rattle.gn_rows.specs.Carried.{a_geometry}
 use Rattle.gn_rows.specs.Library.{library}
 use Rattle.gn_json.specs.Tree.{tree}
 use Rattle.gn_obj.specs.Read.{mesh}

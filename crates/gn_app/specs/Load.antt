@@ -1,5 +1,5 @@
 -- What is known of a shelf, and what reading the files of a command does.
-use Rattle.std.specs.Prelude.{◌≡◌, ◌⊎◌, ◌<◌, ◌≤◌, ℕ, false, List, [], ◌∷◌, length, take, map, codes, bytes_eq, Option, Some, None, IfSome, IsSomeAnd, Result, Ok, Err}
+use Rattle.std.specs.Prelude.{◌≡◌, ◌⊎◌, ◌<◌, ◌≤◌, ℕ, false, List, [], length, take, map, codes, bytes_eq, Option, Some, None, IfSome, IsSomeAnd, Result, Ok, Err}
 use Rattle.gn_io.specs.Outside.{Files, Names, Rose, with_name, with_bytes}
 use Rattle.gn_value.specs.declared.vector.V3.{V3}
 use Rattle.gn_rows.specs.SetPosition.{vector_sum}
@@ -15,7 +15,7 @@ use Rattle.gn_app.specs.declared.load.LoadedTree.{LoadedTree}
 use Rattle.gn_app.specs.declared.load.Prepared.{Prepared}
 use Rattle.gn_app.specs.declared.mesh.Mesh.{Mesh}
 use Rattle.gn_app.specs.Seen.{mesh_of}
-use Rattle.gn_app.specs.Command.{Command, eval, files_of}
+use Rattle.gn_app.specs.Command.{Command, files_of}
 use Rattle.gn_app.specs.Job.{Job, Refusal, refused, Subject, the_tree, the_input, content, job, tree_limit, input_limit}
 use Rattle.gn_app.specs.Outcome.{with_names, files_until, name_of}
 use Rattle.gn_app.specs.Run.{Seen, Told}

@@ -1,6 +1,6 @@
 -- What a run leaves, by its status.
-use Rattle.std.specs.Prelude.{◌≡◌, ◌⊎◌, ℕ, ◌+◌, ◌≤◌, List, [], ◌∷◌, ◌++◌, take, Option, Some, None, Result, Ok, Err, IfOk, IfErr}
-use Rattle.gn_io.specs.Outside.{Files, Names, with_name, with_bytes, Rose}
+use Rattle.std.specs.Prelude.{◌≡◌, ℕ, ◌+◌, ◌≤◌, List, [], ◌∷◌, ◌++◌, take, Option, Some, None, Result, Ok, Err, IfOk, IfErr}
+use Rattle.gn_io.specs.Outside.{Files, Names, with_name, with_bytes}
 use Rattle.gn_io.specs.Files.{file_answer, gained}
 use Rattle.gn_tree.specs.Tree.{Text}
 use Rattle.gn_plain.specs.Geometry.{Geometry}
@@ -8,7 +8,7 @@ use Rattle.gn_obj.specs.Written.{obj_text}
 use Rattle.gn_app.specs.declared.status.Status.{Status}
 use Rattle.gn_app.specs.declared.status.Status.TheVariants.{Done, Absent, ReadFault, WriteFault, NotBuilt, Memory}
 use Rattle.gn_app.specs.Command.{Command, eval, files_of}
-use Rattle.gn_app.specs.Job.{Job, Refusal, Subject, the_tree, the_input, Giving, job, Denotes, CountsDemand}
+use Rattle.gn_app.specs.Job.{Job, Refusal, Subject, the_tree, the_input, Giving, Denotes, CountsDemand}
 
 -- a fact of what names give, where the shelf tells what it holds and what it missed in this call
 abbrev pub WhereTold : Option Files → Option Names → Option Names → (Giving → Type 0) → Type 0

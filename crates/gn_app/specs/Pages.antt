@@ -1,6 +1,6 @@
 -- Writing through a page.
 use Rattle.std.specs.Prelude.{◌≡◌, ℕ, List, ◌++◌, take, Option, Result, Ok, Err}
-use Rattle.gn_io.specs.Outside.{with_bytes, Rose}
+use Rattle.gn_io.specs.Outside.{with_bytes}
 use Rattle.gn_app.specs.declared.write.Unwritten.{Unwritten}
 
 -- the output and the page behind it have a text more

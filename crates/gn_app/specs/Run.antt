@@ -1,8 +1,8 @@
 -- A run of a command: all that is known of its end.
-use Rattle.std.specs.Prelude.{◌≡◌, ◌⊎◌, ◌≤◌, ℕ, List, Option, IfOk}
+use Rattle.std.specs.Prelude.{◌≡◌, ◌⊎◌, ℕ, List, Option, IfOk}
 use Rattle.gn_io.specs.Outside.{Files, Names, Rose}
 use Rattle.gn_app.specs.declared.status.Status.{Status}
-use Rattle.gn_app.specs.declared.status.Status.TheVariants.{Done, Absent, ReadFault, WriteFault, NotBuilt, Memory}
+use Rattle.gn_app.specs.declared.status.Status.TheVariants.{Done, Absent, ReadFault, WriteFault, Memory}
 use Rattle.gn_app.specs.Command.{Command}
 use Rattle.gn_app.specs.Job.{Giving, job}
 use Rattle.gn_app.specs.Outcome.{WhereTold, status_of, EndsAs, AsksFor, AsksUntil, Misses, Writes, WritesLate, Runs, RunsLate}

@@ -1,5 +1,5 @@
 -- What the steps of a run do.
-use Rattle.std.specs.Prelude.{◌≡◌, ◌<◌, List, ◌∷◌, length}
+use Rattle.std.specs.Prelude.{◌≡◌, ◌<◌, ◌∷◌, length}
 use Rattle.gn_obj.specs.Lines.{Text, words}
 
 -- a line has a first word, and the words of the rest behind it

@@ -1,4 +1,4 @@
-use Rattle.std.proofs.Common.{◌≡◌, sym, ◌∙◌, refl}
+use Rattle.std.proofs.Common.{sym, ◌∙◌}
 use Rattle.gn_app.proofs.Preparing.{tree_read, unread_tree}
 use Rattle.gn_app.proofs.files.load_tree.Goals as goal
 

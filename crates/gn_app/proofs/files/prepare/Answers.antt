@@ -1,4 +1,4 @@
-use Rattle.std.proofs.Common.{◌≡◌, sym, ◌∙◌}
+use Rattle.std.proofs.Common.{sym, ◌∙◌}
 use Rattle.gn_app.proofs.Telling.{same_text}
 use Rattle.gn_app.proofs.Preparing.{refused_tree, own_input, refused_input}
 use Rattle.gn_app.proofs.files.prepare.Goals as goal

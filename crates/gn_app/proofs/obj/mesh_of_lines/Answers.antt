@@ -1,4 +1,3 @@
-use Rattle.std.proofs.Common.{◌≡◌, rules}
 use Rattle.gn_app.proofs.Meshes.{mesh_of_parts-split}
 use Rattle.gn_app.proofs.obj.mesh_of_lines.Goals as goal
 

@@ -1,4 +1,4 @@
-use Rattle.std.proofs.Common.{◌≡◌, ◌++◌, Option, map, option_map, drop}
+use Rattle.std.proofs.Common.{◌≡◌, ◌++◌, map, option_map, drop}
 use Rattle.gn_plain.specs.Lists.{all_of}
 use Rattle.gn_obj.specs.Read.{face}
 use Rattle.gn_app.specs.Seen.{face_of}

@@ -1,4 +1,4 @@
-use Rattle.std.proofs.Common.{◌≡◌, ℕ, arith}
+use Rattle.std.proofs.Common.{arith}
 use Rattle.gn_app.proofs.Digits.{next_digit, few_digits_fit, within_nine}
 use Rattle.gn_app.proofs.obj.value_of.Goals as goal
 

@@ -1,4 +1,4 @@
-use Rattle.std.proofs.Common.{◌≡◌, sym, ◌∙◌, nat_eq, ap}
+use Rattle.std.proofs.Common.{sym, ◌∙◌, nat_eq, ap}
 use Rattle.serde_json.specs.View.{view}
 use Rattle.gn_app.proofs.Json.{member_count-members_view, has_members-object}
 use Rattle.gn_app.proofs.tree.has_members.Goals as goal

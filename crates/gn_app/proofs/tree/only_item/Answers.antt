@@ -1,4 +1,4 @@
-use Rattle.std.proofs.Common.{◌≡◌, sym}
+use Rattle.std.proofs.Common.{sym}
 use Rattle.gn_app.proofs.Json.{not_one_item}
 use Rattle.gn_app.proofs.tree.only_item.Goals as goal
 

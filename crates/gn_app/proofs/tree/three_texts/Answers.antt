@@ -1,4 +1,4 @@
-use Rattle.std.proofs.Common.{◌≡◌, sym}
+use Rattle.std.proofs.Common.{sym}
 use Rattle.gn_app.proofs.Json.{too_few_texts, too_many_texts}
 use Rattle.gn_app.proofs.tree.three_texts.Goals as goal
 

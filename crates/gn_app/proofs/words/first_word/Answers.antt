@@ -1,4 +1,4 @@
-use Rattle.std.proofs.Common.{◌≡◌, ℕ, ◌+◌, ◌-◌, List, length, take, drop, ◌∙◌, sym, subst, arith, length-drop}
+use Rattle.std.proofs.Common.{ℕ, ◌+◌, ◌-◌, List, length, take, drop, ◌∙◌, sym, subst, arith, length-drop}
 use Rattle.gn_app.specs.Steps.{HasFirstWord}
 use Rattle.gn_app.proofs.Spaces.{one_word, more_words}
 use Rattle.std.proofs.lemmas.List.{take_all}

@@ -1,4 +1,4 @@
-use Rattle.std.proofs.Common.{◌≡◌, Some, None, rules, sym}
+use Rattle.std.proofs.Common.{sym}
 use Rattle.gn_app.proofs.Spaces.{five_words, there}
 use Rattle.gn_app.proofs.words.four_words.Goals as goal
 

@@ -1,4 +1,4 @@
-use Rattle.std.proofs.Common.{pos, arith, ℕ, List, []}
+use Rattle.std.proofs.Common.{arith, []}
 use Rattle.gn_app.specs.Seen.{face_text}
 use Rattle.gn_app.proofs.PageLemmas.{cut_at, grown_by}
 use Rattle.gn_app.proofs.Preparing.{rose_since}

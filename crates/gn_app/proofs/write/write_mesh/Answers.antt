@@ -1,4 +1,3 @@
-use Rattle.std.proofs.Common.{subst}
 use Rattle.gn_app.proofs.PageLemmas.{all_put, part_put, mesh_text}
 use Rattle.gn_app.proofs.Preparing.{rose_since}
 use Rattle.gn_app.proofs.write.write_mesh.Goals as goal

@@ -1,4 +1,4 @@
-use Rattle.std.proofs.Common.{pos, arith, ℕ, List, []}
+use Rattle.std.proofs.Common.{pos, arith}
 use Rattle.gn_value.specs.Values.{v3}
 use Rattle.gn_obj.specs.Written.{vertex_line}
 use Rattle.gn_app.proofs.PageLemmas.{cut_at, grown_by}
