@@ -8,3 +8,4 @@ pub mod PageLemmas
 pub mod Meaning
 pub mod Running
 pub mod Spelling
+mod Examples

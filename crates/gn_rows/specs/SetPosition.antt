@@ -6,14 +6,14 @@ use Rattle.gn_value.specs.declared.value.Value.{Value}
 use Rattle.gn_value.specs.declared.value.Value.TheVariants.{Truth as truth, Vector as vector}
 use Rattle.gn_value.specs.declared.value.Place.TheVariants.{Point}
 use Rattle.gn_value.specs.Arithmetic.{sum_of}
-use Rattle.gn_value.specs.Values.{v3}
+use Rattle.gn_value.specs.Values.{by_component}
 use Rattle.gn_plain.specs.Geometry.{Geometry}
 use Rattle.gn_plain.specs.Field.{Field, value_at}
 use Rattle.gn_rows.specs.Carried.{Carried, a_geometry, a_field}
 
 -- the sum by component
 abbrev pub vector_sum : V3 → V3 → V3
-vector_sum a b = v3 (sum_of a.x.0 b.x.0) (sum_of a.y.0 b.y.0) (sum_of a.z.0 b.z.0)
+vector_sum a b = by_component sum_of a b
 
 -- a position and an offset together, where the vertex is selected
 abbrev pub moved : V3 → Value → Value → Value → V3
