@@ -32,15 +32,10 @@ abbrev pub Told : Seen → Seen → (Giving → Type 0) → Type 0
 Told before now fact = WhereTold before.holds before.missed now.missed fact
 
 -- nothing is touched
-pub record IsUntouched (before now : Outside) : Type 0 where
-  pub holds : now.shelf.holds ≡ before.shelf.holds
-  pub asked : now.shelf.asked ≡ before.shelf.asked
-  pub missed : now.shelf.missed ≡ before.shelf.missed
-  pub output : now.output ≡ before.output
-  pub messages : now.messages ≡ before.messages
-  pub runs : now.runs ≡ before.runs
-  pub copies : now.copies ≡ before.copies
+abbrev pub IsUntouched : Outside → Outside → Type 0
+IsUntouched before now = now ≡ before
 
+-- how a run of a command ends
 pub record IsRunOf (c : Command) (before now : Outside) (status : Status) : Type 0 where
   -- the status is that which the files lead to, unless memory is refused, a file can't be read, or the output can't be written
   pub ends : Told before.shelf now.shelf (λ files. EndsAs (status_of (job files c)) (Rose before.shelf.faults now.shelf.faults) (Rose before.output_faults now.output_faults) status)
