@@ -1,5 +1,5 @@
 -- The machine values of a handle and of a loose block. Assumes `Logic`.
-use Rattle.gn_block.proofs.Names.{◌≡◌, ℕ, T, List, [], ◌∷◌, ◌++◌, refl, ap, ◌∙◌, Ura, ty_ptr, ty_struct, tcons, tnil, Val, vstruct, vcons, vnil, of_list, has_ty, WT, ent, emp, never_e, fact, fact_i, Logic, sem, RattleType, Is, Ptr, InBlock, block_ptr, null_ptr, ptr_val, Opens, GName, Fml, handle_owns}
+use Rattle.gn_block.proofs.Names.{◌≡◌, ℕ, T, List, [], ◌∷◌, ◌++◌, refl, ap, ◌∙◌, lit<, Ura, ty_ptr, ty_struct, tcons, tnil, Val, vstruct, vcons, vnil, of_list, has_ty, WT, ent, emp, never_e, fact, fact_i, Logic, sem, RattleType, Is, Ptr, InBlock, block_ptr, null_ptr, ptr_val, Opens, GName, Fml, handle_owns}
 use denote.Shadow.{makes_shadow}
 use denote.Copied.{Struct-Copied}
 use denote.Struct.Laws.{RawPtr-copy}
@@ -11,9 +11,9 @@ use Rattle.gn_block.specs.contracts.block.Loose as D
 abbrev pub val_of : Ptr → Val
 val_of p = vstruct (vcons (ptr_val p) vnil)
 
-pub typed : (p : Ptr) → InBlock p → T (has_ty (ty_struct [] (tcons ty_ptr tnil)) (val_of p)) × WT (val_of p)
-typed (block_ptr b o) i = (tt, (tt, tt))
-typed null_ptr i = absurd i
+pub typed : (p : Ptr) → T (has_ty (ty_struct [] (tcons ty_ptr tnil)) (val_of p)) × WT (val_of p)
+typed (block_ptr b o) = (tt, (tt, tt))
+typed null_ptr = (tt, (record { fits = lit< tt }, tt))
 
 module _ (R : RattleType) where
   abbrev pub Words : RattleType

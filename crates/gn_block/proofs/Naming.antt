@@ -54,12 +54,14 @@ module _ {M : Type 1} {𝓤 : Ura M} (𝓛 : Logic 𝓤) where
   pub none_beside : (δ : GName) (c a : ℕ) (q : Share) → ent 𝓤 (sep 𝓤 (sem 𝓛 (tag δ full_share c)) (sem 𝓛 (tag δ q a))) (guard 𝓤 ⊥ (emp 𝓤))
   none_beside δ c a q = own_glued 𝓛 rounds δ (full_share, c) (q, a) (guard 𝓤 ⊥ (emp 𝓤)) (λ x m. absurd (not-OpDef-full_share q m.0.0))
 
-  sum : (a : ℕ) (r e f : Share) → r ∈ Share.op e f → ◌∈◌ {α = Share × ℕ} (r, a) (rounds.op (e, a) (f, a))
-  sum a r e f m = Prod.mk-mem-op Share.op (Ag.op (SetCoded-set (coded coded_ℕ))) {a = e} {a' = f} {x = r} {b = a} {b' = a} {y = a} m (Ag.idem (SetCoded-set (coded coded_ℕ)) a)
+  -- what is owned of a name, in two halves at the same round
+  half_and_half : (c : ℕ) (q : Share) → ◌∈◌ {α = Share × ℕ} (q, c) (rounds.op (Share.left q, c) (Share.right q, c))
+  half_and_half c q = let same = SetCoded-set (coded coded_ℕ) in
+      Prod.mk-mem-op Share.op (Ag.op same) {a = Share.left q} {a' = Share.right q} {x = q} {b = c} {b' = c} {y = c} (Share.halves q) (Ag.idem same c)
 
   -- a share of a name in two halves, and back
   pub halves : (δ : GName) (c : ℕ) → Halves 𝓤 H A (λ q. tag δ q c)
   halves δ c = record {
-    cut = λ q. 𝓛.algebras.own_cut rounds δ (Share.left q, c) (Share.right q, c) (q, c) (sum c q (Share.left q) (Share.right q) (Share.halves q));
-    join = λ q. own_join 𝓛 rounds δ (Share.left q, c) (Share.right q, c) (q, c) (sum c q (Share.left q) (Share.right q) (Share.halves q));
+    cut = λ q. 𝓛.algebras.own_cut rounds δ (Share.left q, c) (Share.right q, c) (q, c) (half_and_half c q);
+    join = λ q. own_join 𝓛 rounds δ (Share.left q, c) (Share.right q, c) (q, c) (half_and_half c q);
   }

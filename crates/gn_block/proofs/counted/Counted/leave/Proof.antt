@@ -29,7 +29,7 @@ leave_spec 𝓤 𝓛 𝓜 𝓡 wired X L =
     keep ! (0 ∷ []) $ split ! $ move ! (1 ∷ []) $ fsplit ! $ fsplit ! $ keep ! (1 ∷ 3 ∷ []) $
     use1 𝓛 (given (InBlock p) (‵ (handle_owns R W p x limit parts δ))) (fact_use 𝓤 _ (owns_placed R 𝓛 W p x limit parts δ) (guard_i 𝓤 (InBlock p) (sem 𝓛 (handle_owns R W p x limit parts δ)))) $ learn ! (λ inb. let at : p ≡ block_ptr b o = at_block p inb in
     rewrite ! 0 (λ (z : Ptr). ‵ (handle_owns R W z x limit parts δ)) at refl $
-    enter ! 𝓣.C 𝓣.Λ fn us Post $ alloc_all ! (λ l. pass_all ! refl (typed p inb, tt) $ let Ev = env fn.locals l in
+    enter ! 𝓣.C 𝓣.Λ fn us Post $ alloc_all ! (λ l. pass_all ! refl (typed p, tt) $ let Ev = env fn.locals l in
     fsplit ! $ fpick ! (λ part. drop ! $ fpick ! (λ t. fsplit3 ! $ let P : Fml = lent R Wb b o x in let after : ℕ → Fml = after_go P b (o + 0) limit δ t in
     -- [inv; seen; held; tokens]
     sets ! (is ! (of_opd ! (get_in ! (fld ! refl (stop !)) (sub ! 0 refl (entire !)))) (ap ptr_val at)) refl (tt, tt) $ first ! $ blocks ! $ sets ! (addr ! (through ! refl (fld ! refl (stop !)))) refl (tt, tt) $

@@ -26,7 +26,7 @@ open_spec 𝓤 𝓛 𝓜 𝓡 wired X L =
     move ! (1 ∷ 2 ∷ []) $ heard ! (μ ⊑ X.lives) (λ le. heard ! Asked (λ asked. split ! $ split ! $ move ! (2 ∷ []) $ fsplit ! $ fsplit ! $ keep ! (1 ∷ 3 ∷ 4 ∷ []) $
     use1 𝓛 (given (InBlock p) (‵ (loose_owns R p s.users x δ))) (fact_use 𝓤 _ (loose_placed 𝓛 R p s.users x δ) (guard_i 𝓤 (InBlock p) (sem 𝓛 (loose_owns R p s.users x δ)))) $ learn ! (λ inb. let at : p ≡ block_ptr b o = at_block p inb in
     rewrite ! 0 (λ (z : Ptr × ℕ). ‵ (loose_owns R z.0 z.1 x δ)) (λ i. (at i, asked.0 i)) refl $
-    enter ! 𝓣.C 𝓣.Λ fn us Post $ alloc_all ! (λ l. pass_all ! refl (typed p inb, ((tt, record { fits = are.1.0.1 }), tt)) $ let Ev = env fn.locals l in
+    enter ! 𝓣.C 𝓣.Λ fn us Post $ alloc_all ! (λ l. pass_all ! refl (typed p, ((tt, record { fits = are.1.0.1 }), tt)) $ let Ev = env fn.locals l in
     fsplit ! $ use1 𝓛 (‵ (word b (o + 0) 1) ⊛ ‵ (lent R Wb b o x)) (halves 𝓛 m (LR.lawful 𝓛) b o 1 x) $ split ! $ move ! (0 ∷ 1 ∷ 2 ∷ 3 ∷ []) $ group ! 4 $
     use1 𝓛 (later (‵ (fex Round (handle R Wb b o x limit δ limit)) ⊛ ‵ (flft μ q))) (opens_up 𝓛 R Wb b o x limit δ asked.1 asked.2 X.lives (LR.shares 𝓛) μ q le) $ await ! tt $ split ! $
     sets ! (is ! (of_opd ! (get_in ! (fld ! refl (stop !)) (sub ! 0 refl (entire !)))) (ap ptr_val at)) refl (tt, tt) $ sets ! (agg ! (and_then ! (get ! refl) (no_more !))) refl (tt, (tt, tt)) $

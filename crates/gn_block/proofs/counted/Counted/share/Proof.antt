@@ -22,7 +22,7 @@ share_spec 𝓤 𝓛 𝓜 𝓡 wired X L =
     keep ! (2 ∷ 0 ∷ []) $ heard ! Asked (λ asked. split ! $ move ! (1 ∷ []) $ fsplit ! $ fsplit ! $ keep ! (1 ∷ 3 ∷ []) $
     use1 𝓛 (given (InBlock p) (‵ (handle_owns R W p x limit parts δ))) (fact_use 𝓤 _ (owns_placed R 𝓛 W p x limit parts δ) (guard_i 𝓤 (InBlock p) (sem 𝓛 (handle_owns R W p x limit parts δ)))) $ learn ! (λ inb. let at : p ≡ block_ptr b o = at_block p inb in
     rewrite ! 0 (λ (z : Ptr). ‵ (handle_owns R W z x limit parts δ)) at refl $
-    enter ! 𝓣.C 𝓣.Λ fn us Post $ alloc_all ! (λ l. pass_all ! refl (typed p inb, ((tt, record { fits = are.1.0.1 }), tt)) $ let Ev = env fn.locals l in
+    enter ! 𝓣.C 𝓣.Λ fn us Post $ alloc_all ! (λ l. pass_all ! refl (typed p, ((tt, record { fits = are.1.0.1 }), tt)) $ let Ev = env fn.locals l in
     fsplit ! $ fpick ! (λ part. drop ! $ fpick ! (λ t. fsplit3 ! $ let I : Fml = common R Wb b o x limit δ t in let s : Lft → Fml = seen R Wb b o x limit δ in let P : Fml = lent R Wb b o x in let after : ℕ → Fml = after_add P b (o + 0) limit δ t parts k in
     use1 𝓛 (‵ (finv I) ⊛ ‵ (finv I)) (𝓛.invs.inv_dup I) $ split ! $ use1 𝓛 (‵ (finv I) ⊛ ‵ (finv I)) (𝓛.invs.inv_dup I) $ split ! $
     move ! (3 ∷ []) $ use1 𝓛 (‵ (s (t.0 ∷ [])) ⊛ ‵ (s (t.0 ∷ []))) (contraction 𝓛 s (LR.shr_laws x b (o + offset R)) (t.0 ∷ [])) $ split ! $

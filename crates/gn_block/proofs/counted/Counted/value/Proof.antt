@@ -1,5 +1,7 @@
 -- `value` shows the value for as long as the handle is borrowed.
 use Rattle.gn_block.proofs.Names.{◌≡◌, ℕ, ◌+◌, List, [], ◌∷◌, sym, refl, ap, ◌∙◌, a_type, named, Val, vptr, inst_fn, SProp, emp, guard_i, Lft, Fml, ftrue, fsep, flft, fhide, sem, ‵, raw, ◌⊛◌, given, at_ret, ◌$◌, ◌∵◌, !, qed, by, move, keep, split, join, fsplit, fjoin, learn, use0, use1, rewrite, feq_i, stop, fld, hop, addr, of_opd, first, blocks, exec, returns, enter, alloc_all, pass_all, free_all, look_at, get, through, sets, sets_last, env, sub, entire, look_in, tables, fact, fact_i, fact_use, yes, RattleType, owns, types_at, plain, Ptr, InBlock, block_ptr, block_of, count_of, at_block, Is, shows, nothing, peeks, looks, shuts, unhide, cell_at, hidden_shr, param, layouts, param_laws, RefOf, shr_vals, shr_Tells, Stays, stay_dropped, walk_of, Goes-dropped, tail, proved, leaves, offset, handle_shares, whole}
+use types.Kit.{Item}
+use denote.Ref.{Bor}
 use denote.Struct.Lending.{lent_out}
 use Rattle.gn_block.proofs.Fields.{val_of, Words, told, opened}
 use Rattle.gn_block.proofs.Lending.{sees, shares_placed}
@@ -25,13 +27,14 @@ value_spec 𝓤 𝓛 𝓜 𝓡 wired X L =
     use1 𝓛 (‵ (hidden_shr D κ (p, tt) b o) ⊛ ‵ (fhide (Shown p))) (lent_out 𝓛 (C.struct R) (C.the_codes X.Denot R.coded) (C.the_heap R) (C.the_lent R) κ h b o) $
     split ! $ move ! (1 ∷ []) $ unhide ! $
     use1 𝓛 (given (InBlock p) (‵ (Shown p))) (fact_use 𝓤 _ (shares_placed 𝓛 R W LR.shr_laws p x limit δ κ) (guard_i 𝓤 (InBlock p) (sem 𝓛 (Shown p)))) $ learn ! (λ so.
-    let at : p ≡ block_ptr pb po = at_block p so in rewrite ! 0 (λ (z : Ptr). ‵ (Shown z)) at refl $
-    use1 𝓛 (‵ (hidden_shr R κ x pb e)) (sees 𝓛 R W LR.shr_laws pb po x limit δ κ) $ move ! (1 ∷ 2 ∷ []) $
-    looks ! tt D (opened R 𝓛) (p, tt) b o (λ q vs. move ! (1 ∷ []) $ peeks ! D (Is D) (shows 𝓛 D) (p, tt) vs (λ is_so.
-    let ev : vs ≡ val_of (block_ptr pb po) ∷ [] = told R p vs is_so ∙ ap (λ (r : Ptr). val_of r ∷ []) at in
-    rewrite ! 1 (λ (ws : List Val). ‵ (cell_at q D.mir ws b o)) ev refl $ first ! $ blocks ! $
-    sets_last ! (addr ! (through ! refl (fld ! refl (hop ! (look_in ! 1 (sub ! 0 refl (entire !))) (fld ! refl (stop !)))))) refl (tt, tt) $ exec ! 𝓣.C 𝓣.Λ Ev (tail fn.body) (at_ret Ev Post) $
-    sets ! (of_opd ! (get ! refl)) refl (tt, tt) $ rewrite ! 1 (λ (ws : List Val). ‵ (cell_at q D.mir ws b o)) (sym ev) refl $ move ! (1 ∷ 0 ∷ 2 ∷ []) $ shuts ! tt D q (p, tt) vs b o $
-    move ! (0 ∷ 3 ∷ []) $ join ! $ move ! (2 ∷ []) $ feq_i ! (List Val) (vptr pb e ∷ []) (vptr pb e ∷ []) refl $ fjoin ! $
-    use0 𝓛 (raw (fact 𝓤 (x ≡ x))) (fact_i 𝓤 (x ≡ x) (emp 𝓤) refl) $ nothing ! $ nothing ! $ fjoin ! $
-    returns ! (look_at ! 0 refl) $ free_all ! refl $ keep ! (3 ∷ 0 ∷ 2 ∷ 1 ∷ []) $ by ! (leaves 𝓛 En hs c y (vptr pb e) (record { ref_ptr = (pb, e); now = x }) (tt, tt) (tt, tt)))))))
+    let at : p ≡ block_ptr pb po = at_block p so in let out : Val = vptr pb e in let word : List Val = val_of (block_ptr pb po) ∷ [] in
+    rewrite ! 0 (λ (z : Ptr). ‵ (Shown z)) at refl $ use1 𝓛 (‵ (hidden_shr R κ x pb e)) (sees 𝓛 R W LR.shr_laws pb po x limit δ κ) $ move ! (1 ∷ 2 ∷ []) $
+    -- [the handle's word; its borrow; the value in the block; tokens]
+    looks ! tt D (opened R 𝓛) (p, tt) b o (λ part vs. let Here : List Val → Item 𝓤 = λ ws. ‵ (cell_at part D.mir ws b o) in
+    move ! (1 ∷ []) $ peeks ! D (Is D) (shows 𝓛 D) (p, tt) vs (λ is_so. let is_word : vs ≡ word = told R p vs is_so ∙ ap (λ (z : Ptr). val_of z ∷ []) at in
+    rewrite ! 1 Here is_word refl $ first ! $ blocks ! $ sets_last ! (addr ! (through ! refl (fld ! refl (hop ! (look_in ! 1 (sub ! 0 refl (entire !))) (fld ! refl (stop !)))))) refl (tt, tt) $
+    exec ! 𝓣.C 𝓣.Λ Ev (tail fn.body) (at_ret Ev Post) $ sets ! (of_opd ! (get ! refl)) refl (tt, tt) $ rewrite ! 1 Here (sym is_word) refl $ move ! (1 ∷ 0 ∷ 2 ∷ []) $ shuts ! tt D part (p, tt) vs b o $
+    -- [κ's token; the other token; nothing; the value in the block]
+    let r : Bor X.Denot = record { ref_ptr = (pb, e); now = x } in
+    move ! (0 ∷ 3 ∷ []) $ join ! $ move ! (2 ∷ []) $ feq_i ! (List Val) (out ∷ []) (out ∷ []) refl $ fjoin ! $ use0 𝓛 (raw (fact 𝓤 (r.now ≡ x))) (fact_i 𝓤 (r.now ≡ x) (emp 𝓤) refl) $
+    nothing ! $ nothing ! $ fjoin ! $ returns ! (look_at ! 0 refl) $ free_all ! refl $ keep ! (3 ∷ 0 ∷ 2 ∷ 1 ∷ []) $ by ! (leaves 𝓛 En hs c y out r (tt, tt) (tt, tt)))))))
