@@ -1,6 +1,7 @@
 -- A run of a command: all that is known of its end.
 use Rattle.std.specs.Prelude.{◌≡◌, ◌⊎◌, ℕ, List, Option, IfOk}
 use Rattle.gn_io.specs.Outside.{Files, Names, Rose}
+use Rattle.gn_shared.specs.Count.{Count}
 use Rattle.gn_app.specs.declared.status.Status.{Status}
 use Rattle.gn_app.specs.declared.status.Status.TheVariants.{Done, Absent, ReadFault, WriteFault, Memory}
 use Rattle.gn_app.specs.Command.{Command}
@@ -26,6 +27,22 @@ pub record Outside : Type 0 where
   -- what the meter has noted
   pub runs : ℕ
   pub copies : ℕ
+
+-- what is known of a shelf, by the meanings of its kind
+abbrev pub seen_by : {S : Type 0} → (S → Option Files) → (S → Option Names) → (S → Option Names) → (S → ℕ) → (S → ℕ) → S → Seen
+seen_by holds asked missed faults misses s =
+    record { holds = holds s; asked = asked s; missed = missed s; faults = faults s; misses = misses s }
+
+-- what is known of a shelf, an output, its faults, the messages and the meter together
+abbrev pub outside : Seen → Option (List ℕ) → ℕ → Option (List ℕ) → Count → Outside
+outside shelf output faults messages meter = record {
+  shelf = shelf;
+  output = output;
+  output_faults = faults;
+  messages = messages;
+  runs = meter.runs;
+  copies = meter.copies;
+}
 
 -- a fact of what names give, where the shelf tells what it holds and what it missed
 abbrev pub Told : Seen → Seen → (Giving → Type 0) → Type 0

@@ -3,7 +3,7 @@ ghost use Rattle.gn_io.specs.Outside.{Rose};
 ghost use Rattle.gn_shared.specs.Count.{with_run};
 ghost use Rattle.gn_app.specs.Command.{Command, eval, Spells, SpellsNone};
 ghost use Rattle.gn_app.specs.Load.{Evaluates};
-ghost use Rattle.gn_app.specs.Run.{Outside, IsRunOf, IsUntouched};
+ghost use Rattle.gn_app.specs.Run.{Outside, IsRunOf, IsUntouched, outside, seen_by};
 
 use crate::files::prepare;
 use crate::load::Prepared;
@@ -42,7 +42,10 @@ fn run_eval<H: Shelf, K: Sink, E: Sink, L>(
     meter: &mut Meter<L>,
 ) -> Status
     requires { meter.old.runs ≤ 2 ^ 62 }
-    ensures { IsRunOf (eval tree.now input.now) (record { shelf = record { holds = H.holds shelf.old; asked = H.asked shelf.old; missed = H.missed shelf.old; faults = H.faults shelf.old; misses = H.misses shelf.old }; output = K.held out.old; output_faults = K.faults out.old; messages = E.held err.old; runs = meter.old.runs; copies = meter.old.copies }) (record { shelf = record { holds = H.holds shelf.new; asked = H.asked shelf.new; missed = H.missed shelf.new; faults = H.faults shelf.new; misses = H.misses shelf.new }; output = K.held out.new; output_faults = K.faults out.new; messages = E.held err.new; runs = meter.new.runs; copies = meter.new.copies }) result }
+    ensures { IsRunOf (eval tree.now input.now)
+        (outside (seen_by H.holds H.asked H.missed H.faults H.misses shelf.old) (K.held out.old) (K.faults out.old) (E.held err.old) meter.old)
+        (outside (seen_by H.holds H.asked H.missed H.faults H.misses shelf.new) (K.held out.new) (K.faults out.new) (E.held err.new) meter.new)
+        result }
 {
     let _ = err;
     match prepare(alloc, tree, input, shelf) {
@@ -72,8 +75,13 @@ where
     E: Sink,
     L: Send + Sync,
     requires { meter.old.runs ≤ 2 ^ 62 }
-    ensures command { (c : Command) → Spells (map string_bytes words.now) c → IsRunOf c (record { shelf = record { holds = H.holds shelf.old; asked = H.asked shelf.old; missed = H.missed shelf.old; faults = H.faults shelf.old; misses = H.misses shelf.old }; output = K.held out.old; output_faults = K.faults out.old; messages = E.held err.old; runs = meter.old.runs; copies = meter.old.copies }) (record { shelf = record { holds = H.holds shelf.new; asked = H.asked shelf.new; missed = H.missed shelf.new; faults = H.faults shelf.new; misses = H.misses shelf.new }; output = K.held out.new; output_faults = K.faults out.new; messages = E.held err.new; runs = meter.new.runs; copies = meter.new.copies }) result }
-    ensures no_command { SpellsNone (map string_bytes words.now) → (result ≡ Status.NotBuilt) × IsUntouched (record { shelf = record { holds = H.holds shelf.old; asked = H.asked shelf.old; missed = H.missed shelf.old; faults = H.faults shelf.old; misses = H.misses shelf.old }; output = K.held out.old; output_faults = K.faults out.old; messages = E.held err.old; runs = meter.old.runs; copies = meter.old.copies }) (record { shelf = record { holds = H.holds shelf.new; asked = H.asked shelf.new; missed = H.missed shelf.new; faults = H.faults shelf.new; misses = H.misses shelf.new }; output = K.held out.new; output_faults = K.faults out.new; messages = E.held err.new; runs = meter.new.runs; copies = meter.new.copies }) }
+    ensures command { (c : Command) → Spells (map string_bytes words.now) c → IsRunOf c
+        (outside (seen_by H.holds H.asked H.missed H.faults H.misses shelf.old) (K.held out.old) (K.faults out.old) (E.held err.old) meter.old)
+        (outside (seen_by H.holds H.asked H.missed H.faults H.misses shelf.new) (K.held out.new) (K.faults out.new) (E.held err.new) meter.new)
+        result }
+    ensures no_command { SpellsNone (map string_bytes words.now) → (result ≡ Status.NotBuilt) × IsUntouched
+        (outside (seen_by H.holds H.asked H.missed H.faults H.misses shelf.old) (K.held out.old) (K.faults out.old) (E.held err.old) meter.old)
+        (outside (seen_by H.holds H.asked H.missed H.faults H.misses shelf.new) (K.held out.new) (K.faults out.new) (E.held err.new) meter.new) }
 {
     let _ = rt;
     match words {
@@ -108,8 +116,13 @@ where
     G: Gate + Sync,
     L: Send + Sync,
     requires { meter.old.runs ≤ 2 ^ 62 }
-    ensures command { (c : Command) → Spells (map string_bytes words.now) c → IsRunOf c (record { shelf = record { holds = H.holds shelf.old; asked = H.asked shelf.old; missed = H.missed shelf.old; faults = H.faults shelf.old; misses = H.misses shelf.old }; output = K.held out.old; output_faults = K.faults out.old; messages = E.held err.old; runs = meter.old.runs; copies = meter.old.copies }) (record { shelf = record { holds = H.holds shelf.new; asked = H.asked shelf.new; missed = H.missed shelf.new; faults = H.faults shelf.new; misses = H.misses shelf.new }; output = K.held out.new; output_faults = K.faults out.new; messages = E.held err.new; runs = meter.new.runs; copies = meter.new.copies }) result }
-    ensures no_command { SpellsNone (map string_bytes words.now) → (result ≡ Status.NotBuilt) × IsUntouched (record { shelf = record { holds = H.holds shelf.old; asked = H.asked shelf.old; missed = H.missed shelf.old; faults = H.faults shelf.old; misses = H.misses shelf.old }; output = K.held out.old; output_faults = K.faults out.old; messages = E.held err.old; runs = meter.old.runs; copies = meter.old.copies }) (record { shelf = record { holds = H.holds shelf.new; asked = H.asked shelf.new; missed = H.missed shelf.new; faults = H.faults shelf.new; misses = H.misses shelf.new }; output = K.held out.new; output_faults = K.faults out.new; messages = E.held err.new; runs = meter.new.runs; copies = meter.new.copies }) }
+    ensures command { (c : Command) → Spells (map string_bytes words.now) c → IsRunOf c
+        (outside (seen_by H.holds H.asked H.missed H.faults H.misses shelf.old) (K.held out.old) (K.faults out.old) (E.held err.old) meter.old)
+        (outside (seen_by H.holds H.asked H.missed H.faults H.misses shelf.new) (K.held out.new) (K.faults out.new) (E.held err.new) meter.new)
+        result }
+    ensures no_command { SpellsNone (map string_bytes words.now) → (result ≡ Status.NotBuilt) × IsUntouched
+        (outside (seen_by H.holds H.asked H.missed H.faults H.misses shelf.old) (K.held out.old) (K.faults out.old) (E.held err.old) meter.old)
+        (outside (seen_by H.holds H.asked H.missed H.faults H.misses shelf.new) (K.held out.new) (K.faults out.new) (E.held err.new) meter.new) }
 {
     let _ = gate;
     run_alone(rt, alloc, words, shelf, out, err, meter)

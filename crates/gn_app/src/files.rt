@@ -2,6 +2,7 @@ ghost use Rattle.std.specs.Prelude.{◌≡◌, ◌≤◌, length};
 ghost use Rattle.gn_app.specs.Command.{eval};
 ghost use Rattle.gn_app.specs.Job.{tree_limit};
 ghost use Rattle.gn_app.specs.Load.{Goes, Loads, ReadsTree, ReadsInput, Prepares, OwnInput};
+ghost use Rattle.gn_app.specs.Run.{seen_by};
 
 use crate::load::{LoadedTree, Prepared};
 use crate::mesh::Mesh;
@@ -18,8 +19,13 @@ const INPUT_LIMIT: u64 = 134_217_728;
 
 /// The bytes of a file that is at most so long.
 fn load<H: Shelf>(alloc: Global, shelf: &mut H, name: &str, limit: u64) -> Result<Vec<u8>, Status>
-    ensures loads { Loads (λ v. v.items) name.now limit (record { holds = H.holds shelf.old; asked = H.asked shelf.old; missed = H.missed shelf.old; faults = H.faults shelf.old; misses = H.misses shelf.old }) (record { holds = H.holds shelf.new; asked = H.asked shelf.new; missed = H.missed shelf.new; faults = H.faults shelf.new; misses = H.misses shelf.new }) result }
-    ensures goes { Goes (record { holds = H.holds shelf.old; asked = H.asked shelf.old; missed = H.missed shelf.old; faults = H.faults shelf.old; misses = H.misses shelf.old }) (record { holds = H.holds shelf.new; asked = H.asked shelf.new; missed = H.missed shelf.new; faults = H.faults shelf.new; misses = H.misses shelf.new }) }
+    ensures loads { Loads (λ v. v.items) name.now limit
+        (seen_by H.holds H.asked H.missed H.faults H.misses shelf.old)
+        (seen_by H.holds H.asked H.missed H.faults H.misses shelf.new)
+        result }
+    ensures goes { Goes
+        (seen_by H.holds H.asked H.missed H.faults H.misses shelf.old)
+        (seen_by H.holds H.asked H.missed H.faults H.misses shelf.new) }
 {
     let mut bytes = Vec::new(alloc);
     match shelf.fetch(name, limit, &mut bytes) {
@@ -33,8 +39,13 @@ fn load<H: Shelf>(alloc: Global, shelf: &mut H, name: &str, limit: u64) -> Resul
 
 /// A tree of the first form.
 fn load_tree<H: Shelf>(alloc: Global, shelf: &mut H, name: &str) -> Result<LoadedTree, Status>
-    ensures reads { ReadsTree name.now (record { holds = H.holds shelf.old; asked = H.asked shelf.old; missed = H.missed shelf.old; faults = H.faults shelf.old; misses = H.misses shelf.old }) (record { holds = H.holds shelf.new; asked = H.asked shelf.new; missed = H.missed shelf.new; faults = H.faults shelf.new; misses = H.misses shelf.new }) result }
-    ensures goes { Goes (record { holds = H.holds shelf.old; asked = H.asked shelf.old; missed = H.missed shelf.old; faults = H.faults shelf.old; misses = H.misses shelf.old }) (record { holds = H.holds shelf.new; asked = H.asked shelf.new; missed = H.missed shelf.new; faults = H.faults shelf.new; misses = H.misses shelf.new }) }
+    ensures reads { ReadsTree name.now
+        (seen_by H.holds H.asked H.missed H.faults H.misses shelf.old)
+        (seen_by H.holds H.asked H.missed H.faults H.misses shelf.new)
+        result }
+    ensures goes { Goes
+        (seen_by H.holds H.asked H.missed H.faults H.misses shelf.old)
+        (seen_by H.holds H.asked H.missed H.faults H.misses shelf.new) }
 {
     let bytes = load(alloc, shelf, name, TREE_LIMIT)?;
     match read_tree(alloc, &bytes) {
@@ -46,8 +57,13 @@ fn load_tree<H: Shelf>(alloc: Global, shelf: &mut H, name: &str) -> Result<Loade
 
 /// An input of the first form.
 fn load_input<H: Shelf>(alloc: Global, shelf: &mut H, name: &str) -> Result<Mesh, Status>
-    ensures reads { ReadsInput name.now (record { holds = H.holds shelf.old; asked = H.asked shelf.old; missed = H.missed shelf.old; faults = H.faults shelf.old; misses = H.misses shelf.old }) (record { holds = H.holds shelf.new; asked = H.asked shelf.new; missed = H.missed shelf.new; faults = H.faults shelf.new; misses = H.misses shelf.new }) result }
-    ensures goes { Goes (record { holds = H.holds shelf.old; asked = H.asked shelf.old; missed = H.missed shelf.old; faults = H.faults shelf.old; misses = H.misses shelf.old }) (record { holds = H.holds shelf.new; asked = H.asked shelf.new; missed = H.missed shelf.new; faults = H.faults shelf.new; misses = H.misses shelf.new }) }
+    ensures reads { ReadsInput name.now
+        (seen_by H.holds H.asked H.missed H.faults H.misses shelf.old)
+        (seen_by H.holds H.asked H.missed H.faults H.misses shelf.new)
+        result }
+    ensures goes { Goes
+        (seen_by H.holds H.asked H.missed H.faults H.misses shelf.old)
+        (seen_by H.holds H.asked H.missed H.faults H.misses shelf.new) }
 {
     let bytes = load(alloc, shelf, name, INPUT_LIMIT)?;
     match read_mesh(alloc, &bytes) {
@@ -78,8 +94,13 @@ pub(crate) fn prepare<H: Shelf>(
     input: &str,
     shelf: &mut H,
 ) -> Result<Prepared, Status>
-    ensures prepares { Prepares (eval tree.now input.now) (record { holds = H.holds shelf.old; asked = H.asked shelf.old; missed = H.missed shelf.old; faults = H.faults shelf.old; misses = H.misses shelf.old }) (record { holds = H.holds shelf.new; asked = H.asked shelf.new; missed = H.missed shelf.new; faults = H.faults shelf.new; misses = H.misses shelf.new }) result }
-    ensures goes { Goes (record { holds = H.holds shelf.old; asked = H.asked shelf.old; missed = H.missed shelf.old; faults = H.faults shelf.old; misses = H.misses shelf.old }) (record { holds = H.holds shelf.new; asked = H.asked shelf.new; missed = H.missed shelf.new; faults = H.faults shelf.new; misses = H.misses shelf.new }) }
+    ensures prepares { Prepares (eval tree.now input.now)
+        (seen_by H.holds H.asked H.missed H.faults H.misses shelf.old)
+        (seen_by H.holds H.asked H.missed H.faults H.misses shelf.new)
+        result }
+    ensures goes { Goes
+        (seen_by H.holds H.asked H.missed H.faults H.misses shelf.old)
+        (seen_by H.holds H.asked H.missed H.faults H.misses shelf.new) }
 {
     let loaded = match load_tree(alloc, shelf, tree) {
         Ok(loaded) => loaded,
