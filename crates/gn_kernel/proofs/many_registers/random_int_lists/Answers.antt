@@ -1,0 +1,12 @@
+use Rattle.std.proofs.Common.{◌≡◌, ◌∙◌, ap, pos, rules}
+use Rattle.gn_value.specs.Rows.{random_hash, random_int, row}
+use Rattle.gn_value.specs.declared.value.Value.TheVariants.{Int as int}
+use Rattle.gn_kernel.specs.Registers.{int_in_list}
+use Rattle.gn_kernel.proofs.many_registers.random_int_lists.Goals as goal
+
+pub returns : goal.returns
+unfolding row
+returns c = λ k h.
+    let p = c.each_four.ensures k (pos 0) (pos 0) (pos 0) (pos 0) (pos 0) h in
+    let e : int_in_list c.each_four.new.into k ≡ random_int (int_in_list c.int_list-low.result.now k) (int_in_list c.int_list-high.result.now k) (random_hash (int_in_list c.int_list-id.result.now k) (int_in_list c.int_list-seed.result.now k)) = search rules in
+    ap int e ∙ (λ i. int (random_int (c.int_list-low.ensures.values k i) (c.int_list-high.ensures.values k i) (random_hash (c.int_list-id.ensures.values k i) (c.int_list-seed.ensures.values k i))))

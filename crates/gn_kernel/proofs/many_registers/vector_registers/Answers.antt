@@ -1,0 +1,28 @@
+use Rattle.std.proofs.Common.{◌∙◌, refl}
+use Rattle.gn_value.specs.Rows.{row, vector_row}
+use Rattle.gn_value.specs.Registers.{registers_named}
+use Rattle.gn_kernel.specs.Registers.{fixed_in_list, vector_in_list}
+use Rattle.gn_kernel.proofs.Positions.{fixed_at_is, fixed_long, vector_at_is, vector_first, vector_long}
+use Rattle.gn_kernel.proofs.many_registers.vector_registers.Goals as goal
+
+pub vector_lists-requires-clause-first : goal.vector_lists-requires-clause-first
+vector_lists-requires-clause-first c =
+    rw (c.vector_found-a.ensures)
+    (vector_long (registers_named c.args.registers.now c.args.args.now) 0 _ c.requires.one_length (rw c.requires.kinds (vector_first c.args.op)))
+
+pub vector_lists-requires-clause-second : goal.vector_lists-requires-clause-second
+vector_lists-requires-clause-second c = λ two.
+    rw (c.vector_found-b.ensures)
+    (vector_long (registers_named c.args.registers.now c.args.args.now) 1 _ c.requires.one_length (rw (c.requires.kinds, two) refl))
+
+pub vector_lists-requires-clause-scale : goal.vector_lists-requires-clause-scale
+vector_lists-requires-clause-scale c = λ two.
+    rw (c.fixed_found-scale.ensures)
+    (fixed_long (registers_named c.args.registers.now c.args.args.now) 1 _ c.requires.one_length (rw (c.requires.kinds, two) refl))
+
+pub returns : goal.returns
+unfolding row
+returns c = λ k h.
+    let named = registers_named c.args.registers.now c.args.args.now in
+    rw (vector_at_is k named 0, vector_at_is k named 1, fixed_at_is k named 1)
+    (c.vector_lists.ensures k h ∙ (λ i. vector_row c.args.op (vector_in_list (c.vector_found-a.ensures i) k) (vector_in_list (c.vector_found-b.ensures i) k) (fixed_in_list (c.fixed_found-scale.ensures i) k).0))
