@@ -255,3 +255,11 @@ fn a_tree_has_at_most_four_mebibytes(rt: HostRuntime) -> Result<(), Fail> {
     compare(&rt, &seen, Status::NotBuilt, "", 1, 0);
     Ok(())
 }
+
+#[test]
+fn an_input_has_at_most_128_mebibytes(rt: HostRuntime) -> Result<(), Fail> {
+    let long = padded(rt.alloc(), 134_217_729)?;
+    let seen = run_over(&rt, rt.alloc(), &EVAL, LIFT, long.as_str(), 0, (0, 0))?;
+    compare(&rt, &seen, Status::NotBuilt, "", 2, 0);
+    Ok(())
+}
