@@ -1,4 +1,5 @@
 pub mod Bounded
+pub mod Division
 pub mod Modulo
 pub mod Roots
 pub mod Worked

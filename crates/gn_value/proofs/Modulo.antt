@@ -10,7 +10,7 @@ pub rest_of : (x : ℤ) (k : ℕ) → x -ℤ (pos (suc k) *ℤ int_div_euclid x 
 rest_of (pos m) k = omega (arith, ints, div-add-mod m (suc k))
 rest_of (negsuc m) k = omega (arith, ints, div-add-mod m (suc k), mul-suc (suc k) (m / suc k), mod_below m (suc k) (omega arith))
 
-above : (a b : ℤ) → pos 0 <ℤ b → floor_div a b ≡ int_div_euclid a b
+pub above : (a b : ℤ) → pos 0 <ℤ b → floor_div a b ≡ int_div_euclid a b
 above a b h = grind (arith, ints)
 
 below : (a b : ℤ) → b <ℤ pos 0 → floor_div a b ≡ int_div_euclid (neg_ℤ a) (neg_ℤ b)

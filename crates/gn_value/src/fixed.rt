@@ -1,9 +1,9 @@
-ghost use Rattle.std.specs.Prelude.{◌≡◌, ◌^◌, ◌≤◌, ◌*ℤ◌, int_div, unsigned_abs};
-ghost use Rattle.std.specs.Int.{int_max, int_min};
+ghost use Rattle.std.specs.Prelude.{◌≡◌, ◌^◌, ◌≤◌, ◌<◌, ◌+ℤ◌, ◌*ℤ◌, ◌<ℤ◌, pos, negsuc, int_div, unsigned_abs};
+ghost use Rattle.std.specs.Int.{int_div_euclid, int_max, int_min, int_rem_euclid};
 ghost use Rattle.gn_value.specs.Arithmetic.{ceil_of, difference_of, exact_product, floor_of, magnitude_of, modulo_of, one, product_of, quotient_of, raw_truth, root_of, sat, sum_of};
 ghost use Rattle.gn_value.specs.Values.{fx};
 
-use crate::whole::{divide_down, isqrt, modulo_i64, saturate_i64, scale_down};
+use crate::whole::{divide_down, fraction_of, isqrt, modulo_i64, saturate_i64, scale_down};
 
 /// A fixed number: the raw number divided by 2^32.
 #[derive(Clone, Copy, Debug, PartialEq, Eq, PartialOrd, Ord, Hash)]
@@ -50,7 +50,13 @@ impl Fx {
     pub fn div(self, b: Fx) -> Fx
         ensures { result ≡ fx (quotient_of self.0 b.0) }
     {
-        Fx(saturate_i64(divide_down(self.0 as i128 * (1 << 32), b.0 as i128)))
+        if b.0 > 0 {
+            return Fx(quotient(self.0, b.0 as u64));
+        }
+        match (self.0.checked_neg(), b.0.checked_neg()) {
+            (Some(a), Some(b)) if b > 0 => Fx(quotient(a, b as u64)),
+            _ => Fx(saturate_i64(divide_down(self.0 as i128 * (1 << 32), b.0 as i128))),
+        }
     }
 
     /// What the quotient rounded down leaves: it has the sign of `b`, and is 0 where `b` is 0.
@@ -124,5 +130,59 @@ impl Fx {
         ensures { result ≡ fx (integer *ℤ one) }
     {
         Fx(integer as i64 * (1 << 32))
+    }
+}
+
+/// The quotient of two raw numbers as a raw number, rounded down and then brought into range.
+fn quotient(a: i64, b: u64) -> i64
+    requires { 0 < b }
+    ensures { result ≡ quotient_of a (pos b) }
+{
+    let (whole, rest) = whole_and_rest(a, b);
+    with_fraction(whole, fraction_of(rest, b))
+}
+
+/// The quotient of two whole numbers rounded down, and what it leaves, by one division.
+fn whole_and_rest(a: i64, b: u64) -> (i64, u64)
+    requires { 0 < b }
+    ensures whole { result.0 ≡ int_div_euclid a (pos b) }
+    ensures rest { pos result.1 ≡ int_rem_euclid a (pos b) }
+    ensures below { result.1 < b }
+{
+    if a < 0 {
+        let m = below_minus_one(a);
+        return (minus_one_less(m / b), b - 1 - m % b);
+    }
+    ((a as u64 / b) as i64, a as u64 % b)
+}
+
+/// How far a negative number is below -1.
+fn below_minus_one(a: i64) -> u64
+    requires { a <ℤ pos 0 }
+    ensures value { a ≡ negsuc result }
+    ensures bound { result < 2 ^ 63 }
+{
+    -(a + 1) as u64
+}
+
+/// The number that is so far below -1.
+fn minus_one_less(m: u64) -> i64
+    requires { m < 2 ^ 63 }
+    ensures { result ≡ negsuc m }
+{
+    -(m as i64) - 1
+}
+
+/// A whole number and a fraction, as a raw number brought into range.
+fn with_fraction(whole: i64, fraction: u64) -> i64
+    requires { fraction < 2 ^ 32 }
+    ensures { result ≡ sat (whole *ℤ one +ℤ pos fraction) }
+{
+    if whole > i32::MAX as i64 {
+        i64::MAX
+    } else if whole < i32::MIN as i64 {
+        i64::MIN
+    } else {
+        whole * (1 << 32) + fraction as i64
     }
 }

@@ -1,5 +1,5 @@
 //! Operations on whole numbers that the other modules share.
-ghost use Rattle.std.specs.Prelude.{◌≡◌, ◌^◌, ◌≤◌, pos, unsigned_abs};
+ghost use Rattle.std.specs.Prelude.{◌≡◌, ◌^◌, ◌≤◌, ◌<◌, ◌*◌, ◌/◌, pos, unsigned_abs};
 ghost use Rattle.gn_value.specs.Arithmetic.{IsRoot, floor_div, isqrt_of, mean_of, modulo_of, one, sat, sat_int, square};
 
 /// The number brought into the range of a raw number.
@@ -41,6 +41,34 @@ pub fn divide_down(a: i128, b: i128) -> i128
     } else {
         0
     }
+}
+
+/// The fraction that a rest is of its divisor, as a raw number rounded down: in 64 bits where the
+/// divisor is at most 2^48 or the rest below 2^32.
+#[tactic(auto, using(crate::proofs::Division::below_scale))]
+pub fn fraction_of(rest: u64, divisor: u64) -> u64
+    requires { rest < divisor }
+    ensures value { result ≡ rest * 2 ^ 32 / divisor }
+    ensures below_one { result < 2 ^ 32 }
+{
+    if rest < 1 << 32 {
+        rest * (1 << 32) / divisor
+    } else if divisor <= 1 << 48 {
+        fraction_in_halves(rest, divisor)
+    } else {
+        (rest as u128 * (1 << 32) / divisor as u128) as u64
+    }
+}
+
+/// The same fraction, 16 bits at a time.
+fn fraction_in_halves(rest: u64, divisor: u64) -> u64
+    requires rest_of { rest < divisor }
+    requires short { divisor ≤ 2 ^ 48 }
+    ensures { result ≡ rest * 2 ^ 32 / divisor }
+{
+    let scaled = rest * (1 << 16);
+    let left = scaled % divisor;
+    scaled / divisor * (1 << 16) + left * (1 << 16) / divisor
 }
 
 /// The exact sum divided by the count, rounded down; 0 for no values.
