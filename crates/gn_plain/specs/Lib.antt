@@ -1,3 +1,5 @@
 pub mod Lists
+pub mod Edges
 pub mod Geometry
+pub mod Topology
 pub mod Field

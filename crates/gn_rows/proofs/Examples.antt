@@ -20,7 +20,7 @@ abbrev at_height : ℕ → V3
 at_height z = v3 (pos 0) (pos 0) (pos (units z))
 
 abbrev points_at : List V3 → Geometry
-points_at points = record { mesh = record { points = points; faces = [] } }
+points_at points = record { mesh = record { points = points; edges = []; faces = [] } }
 
 abbrev lift : Tree
 lift = record {
