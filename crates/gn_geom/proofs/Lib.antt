@@ -1,0 +1,4 @@
+pub mod EdgeSets
+pub mod Marks
+pub mod Joins
+pub mod FaceLemmas

@@ -1,0 +1,4 @@
+pub mod Meshes
+pub mod Geometries
+pub mod Edges
+pub mod Faces
