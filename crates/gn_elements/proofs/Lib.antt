@@ -1,0 +1,6 @@
+mod Examples
+pub mod Digits
+pub mod EdgeSets
+pub mod Growth
+pub mod Repeats
+pub mod Rows

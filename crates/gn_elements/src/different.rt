@@ -1,0 +1,44 @@
+ghost use Rattle.std.specs.Prelude.{◌≡◌, IfOk};
+ghost use Rattle.gn_elements.specs.Read.{all_differ};
+
+use gn_memory::Memory;
+use indexmap::IndexSet;
+use std::alloc::Global;
+
+/// Up to so many vertices are compared with each other.
+const FEW: usize = 16;
+
+fn few_differ(vertices: &[u32]) -> bool
+    ensures { result ≡ all_differ vertices.now }
+{
+    let mut rest = vertices;
+    while let [first, others @ ..] = rest {
+        if others.contains(first) {
+            return false;
+        }
+        rest = others;
+    }
+    true
+}
+
+fn many_differ(alloc: Global, vertices: &[u32]) -> Result<bool, Memory>
+    ensures { IfOk result (λ differ. differ ≡ all_differ vertices.now) }
+{
+    let mut seen = IndexSet::with_capacity(alloc, vertices.len())?;
+    for vertex in vertices {
+        if !seen.insert(*vertex)? {
+            return Ok(false);
+        }
+    }
+    Ok(true)
+}
+
+/// Whether no vertex stands twice in a row.
+pub(crate) fn are_different(alloc: Global, vertices: &[u32]) -> Result<bool, Memory>
+    ensures { IfOk result (λ differ. differ ≡ all_differ vertices.now) }
+{
+    if vertices.len() <= FEW {
+        return Ok(few_differ(vertices));
+    }
+    many_differ(alloc, vertices)
+}

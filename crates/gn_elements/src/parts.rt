@@ -1,0 +1,150 @@
+ghost use Rattle.std.specs.Prelude.{◌≡◌, ◌+◌, ◌<◌, ◌≤◌, ◌^◌, ◌++◌, true, length, filter, fold, IfOk, OnOk, Ok};
+ghost use Rattle.std.specs.List.{position_or_len};
+ghost use Rattle.gn_plain.specs.Edges.{is_edge, edge_between, edges_along, edges_around, with_edge};
+ghost use Rattle.gn_plain.specs.Topology.{edge_of};
+ghost use Rattle.gn_elements.specs.Read.{vertex, row, face, is_proper};
+ghost use Rattle.gn_elements.specs.Growing.{fits, numbers_among, none_yet};
+ghost use Rattle.gn_elements.specs.Steps.{Grows, edges_in};
+ghost use Rattle.gn_elements.specs.Seen.{growing};
+
+use crate::rule::Rule;
+use gn_memory::Memory;
+use gn_value::V3;
+use indexmap::IndexSet;
+use std::alloc::Global;
+
+/// How many vertices, edges, faces or corners a mesh has at most.
+pub(crate) const MOST: usize = 1 << 23;
+
+/// The parts of a mesh while it is read.
+#[derive(Drop)]
+pub struct Parts {
+    /// Where the vertices are.
+    pub points: Vec<V3>,
+    /// The different edges in the order in which they came, the lesser vertex first.
+    pub edges: IndexSet<(u32, u32)>,
+    /// The vertex of each corner.
+    pub corner_points: Vec<u32>,
+    /// The edge of each corner.
+    pub corner_edges: Vec<u32>,
+    /// Where each face's corners begin, and at last the number of corners.
+    pub faces: Vec<u32>,
+}
+
+/// The edge between two vertices: the lesser number, and then the greater.
+fn edge_between(a: u32, b: u32) -> (u32, u32)
+    ensures { edge_of result ≡ edge_between a b }
+{
+    if b < a { (b, a) } else { (a, b) }
+}
+
+/// Puts the edge between two vertices behind the others, unless it is one of them, and tells where
+/// it is.
+fn add_edge(edges: &mut IndexSet<(u32, u32)>, a: u32, b: u32) -> Result<usize, Memory>
+    ensures edges { OnOk result (edges_in edges.new ≡ with_edge (edges_in edges.old) (edge_between a b)) }
+    ensures number { IfOk result (λ n. n ≡ position_or_len (is_edge (edge_between a b)) (edges_in edges.old)) }
+    ensures within { IfOk result (λ n. n ≤ length (edges_in edges.old)) }
+    ensures few { OnOk result (length (edges_in edges.new) ≤ length (edges_in edges.old) + 1) }
+{
+    let (number, _) = edges.insert_full(edge_between(a, b))?;
+    Ok(number)
+}
+
+/// Puts the edges between neighbours that differ behind the others, each unless it is one of them.
+fn add_edges_along(edges: &mut IndexSet<(u32, u32)>, row: &[u32]) -> Result<(), Memory>
+    ensures { OnOk result (edges_in edges.new ≡ fold with_edge (edges_in edges.old) (filter is_proper (edges_along row.now))) }
+{
+    let [first, others @ ..] = row else {
+        return Ok(());
+    };
+    let mut from = *first;
+    for to in others {
+        if from != *to {
+            add_edge(edges, from, *to)?;
+        }
+        from = *to;
+    }
+    Ok(())
+}
+
+/// Puts the edges around a face behind the others, each unless it is one of them, and the number of
+/// each behind other numbers.
+fn add_edges_around(
+    edges: &mut IndexSet<(u32, u32)>,
+    numbers: &mut Vec<u32>,
+    face: &[u32],
+) -> Result<(), Memory>
+    requires { length (edges_in edges.old) + length face.now < 2 ^ 32 }
+    ensures edges { OnOk result (edges_in edges.new ≡ fold with_edge (edges_in edges.old) (edges_around face.now)) }
+    ensures numbers { OnOk result (numbers.new.items ≡ numbers.old.items ++ numbers_among (edges_in edges.old) (edges_around face.now)) }
+{
+    let [first, others @ ..] = face else {
+        return Ok(());
+    };
+    let mut from = *first;
+    for to in others {
+        numbers.push(add_edge(edges, from, *to)? as u32)?;
+        from = *to;
+    }
+    numbers.push(add_edge(edges, from, *first)? as u32)?;
+    Ok(())
+}
+
+impl Parts {
+    /// The parts of a mesh of which nothing is read yet.
+    pub(crate) fn new(alloc: Global) -> Result<Parts, Memory>
+        ensures { IfOk result (λ parts. growing parts ≡ none_yet) }
+    {
+        let mut faces = Vec::new(alloc);
+        faces.push(0)?;
+        Ok(Parts {
+            points: Vec::new(alloc),
+            edges: IndexSet::new(alloc),
+            corner_points: Vec::new(alloc),
+            corner_edges: Vec::new(alloc),
+            faces,
+        })
+    }
+
+    /// Adds a vertex.
+    pub(crate) fn add_vertex(&mut self, point: V3) -> Result<Result<(), Rule>, Memory>
+        requires { fits (growing self.old) ≡ true }
+        ensures { IfOk result (Grows (growing self.old) (Ok (vertex point)) (growing self.new)) }
+    {
+        self.points.push(point)?;
+        if self.points.len() > MOST {
+            return Ok(Err(Rule::TooManyElements));
+        }
+        Ok(Ok(()))
+    }
+
+    /// Adds the edges between neighbours that differ in a row of vertices.
+    pub(crate) fn add_row(&mut self, vertices: &[u32]) -> Result<Result<(), Rule>, Memory>
+        requires { fits (growing self.old) ≡ true }
+        ensures { IfOk result (Grows (growing self.old) (Ok (row vertices.now)) (growing self.new)) }
+    {
+        add_edges_along(&mut self.edges, vertices)?;
+        if self.edges.len() > MOST {
+            return Ok(Err(Rule::TooManyElements));
+        }
+        Ok(Ok(()))
+    }
+
+    /// Adds a face with corners at these vertices.
+    pub(crate) fn add_face(&mut self, vertices: &[u32]) -> Result<Result<(), Rule>, Memory>
+        requires { fits (growing self.old) ≡ true }
+        ensures { IfOk result (Grows (growing self.old) (Ok (face vertices.now)) (growing self.new)) }
+    {
+        self.corner_points.extend_from_slice(vertices)?;
+        let corners = self.corner_points.len();
+        if corners > MOST {
+            return Ok(Err(Rule::TooManyElements));
+        }
+        add_edges_around(&mut self.edges, &mut self.corner_edges, vertices)?;
+        self.faces.push(corners as u32)?;
+        if self.edges.len() > MOST || self.faces.len() - 1 > MOST {
+            return Ok(Err(Rule::TooManyElements));
+        }
+        Ok(Ok(()))
+    }
+}
