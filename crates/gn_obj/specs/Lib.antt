@@ -1,3 +1,5 @@
-pub mod Lines
-pub mod Read
+pub mod ShortNumbers
+pub mod Faults
 pub mod Written
+pub mod FaceTexts
+pub mod Pages

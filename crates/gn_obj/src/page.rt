@@ -1,0 +1,118 @@
+ghost use Rattle.std.specs.Prelude.{◌≡◌, ◌≤◌, ◌+◌, ◌++◌, [], length};
+ghost use Rattle.gn_io.specs.Outside.{stopped};
+ghost use Rattle.gn_obj.specs.Pages.{PageBytes, Writes, writer};
+
+use gn_io::{Put, Sink};
+use std::marker::Model;
+
+/// The room of a page, in bytes.
+pub(crate) const ROOM: usize = 16384;
+
+/// The room that any piece of a line needs, in bytes.
+pub(crate) const PIECE: usize = 128;
+
+/// The output could not take all bytes.
+#[derive(Clone, Copy, Debug, PartialEq, Eq)]
+pub(crate) struct Unwritten;
+
+/// Bytes that wait to be handed on in one piece, and how many were handed on before them. The page
+/// stands on the stack. Contracts see a `PageBytes`.
+#[derive(Drop)]
+pub(crate) struct Page {
+    bytes: [u8; ROOM],
+    len: usize,
+    sent: u64,
+}
+
+impl Model for Page {
+    ghost use Rattle.std.specs.Prelude.{◌≤◌, take};
+    ghost use Rattle.gn_obj.specs.Pages.{PageBytes};
+
+    ghost Value = { PageBytes };
+
+    ghost view = { λ p. record { waiting = take p.len p.bytes; sent = p.sent } };
+
+    ghost invariant = { λ p. p.len ≤ 16384 };
+}
+
+impl Page {
+    /// A page with nothing on it.
+    pub(crate) fn new() -> Page
+        ensures { result ≡ record { waiting = []; sent = 0 } }
+    {
+        Page {
+            bytes: [0; ROOM],
+            len: 0,
+            sent: 0,
+        }
+    }
+
+    /// How many bytes are on the page.
+    fn len(&self) -> usize
+        ensures count { result ≡ length self.now.waiting }
+        ensures within { result ≤ 16384 }
+    {
+        self.len
+    }
+
+    /// How many bytes were handed on: a count that stops at 2^64 - 1.
+    pub(crate) fn sent(&self) -> u64
+        ensures { result ≡ self.now.sent }
+    {
+        self.sent
+    }
+
+    /// The bytes on the page.
+    fn as_slice(&self) -> &[u8]
+        ensures { result.now ≡ self.now.waiting }
+    {
+        &self.bytes[..self.len]
+    }
+
+    /// Takes all bytes off the page, of which so many were handed on.
+    fn take_off(&mut self, taken: u64)
+        ensures { self.new ≡ record { waiting = []; sent = stopped (self.old.sent + taken) } }
+    {
+        self.len = 0;
+        self.sent = self.sent.saturating_add(taken);
+    }
+
+    /// Puts a text behind what is on the page.
+    pub(crate) fn append(&mut self, text: &[u8])
+        requires { length self.old.waiting + length text.now ≤ 16384 }
+        ensures { self.new ≡ record { waiting = self.old.waiting ++ text.now; sent = self.old.sent } }
+    {
+        let end = self.len + text.len();
+        self.bytes[self.len..end].copy_from_slice(text);
+        self.len = end;
+    }
+}
+
+/// Hands the page on, and takes all bytes off it.
+pub(crate) fn flush<K: Sink>(out: &mut K, page: &mut Page) -> Result<(), Unwritten>
+    ensures writes { Writes [] (writer (K.held out.old) (K.faults out.old) page.old) (writer (K.held out.new) (K.faults out.new) page.new) result }
+    ensures empty { page.new.waiting ≡ [] }
+{
+    match out.put(page.as_slice()) {
+        Put::All => {
+            let len = page.len() as u64;
+            page.take_off(len);
+            Ok(())
+        }
+        Put::Failed { taken } => {
+            page.take_off(taken);
+            Err(Unwritten)
+        }
+    }
+}
+
+/// Makes room for a piece of a line on the page.
+pub(crate) fn make_room<K: Sink>(out: &mut K, page: &mut Page) -> Result<(), Unwritten>
+    ensures writes { Writes [] (writer (K.held out.old) (K.faults out.old) page.old) (writer (K.held out.new) (K.faults out.new) page.new) result }
+    ensures room { length page.new.waiting + 128 ≤ 16384 }
+{
+    if page.len() + PIECE <= ROOM {
+        return Ok(());
+    }
+    flush(out, page)
+}
