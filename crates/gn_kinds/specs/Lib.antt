@@ -1,0 +1,4 @@
+pub mod Row
+pub mod Names
+pub mod Seen
+pub mod Table

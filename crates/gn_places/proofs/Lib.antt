@@ -1,0 +1,4 @@
+pub mod Order
+pub mod First
+pub mod Escaping
+mod Examples
