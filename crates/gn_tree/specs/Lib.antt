@@ -1,2 +1,7 @@
 pub mod Tree
 pub mod Kinds
+pub mod Trees
+pub mod Rising
+pub mod Coding
+pub mod Seen
+pub mod Smaller

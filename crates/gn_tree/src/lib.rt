@@ -1,5 +1,15 @@
-//! What a tree of nodes is, as it is written, and which inputs and outputs each kind of node has.
+//! Trees of nodes as they are written, and the kinds of nodes with their settings.
 //!
-//! The crate holds definitions alone so far: trees with nodes in one list, and the table of kinds with
-//! its first row. It stands on `gn_value` and `gn_plain`.
+//! `Tree` holds what a file of a tree spells, once it is of its form, and `Kind` a kind of node with
+//! the values of its settings. Contracts see a node as the data of `Trees`: texts are lists of bytes,
+//! and the nodes of a zone stand in its setting. The table of kinds and places is in `gn_kinds`; the
+//! modules `Tree` and `Kinds` of the definitions hold trees of a first form, as the program reads them.
+//! The crate stands on `gn_value`, `gn_plain` and `gn_kinds`.
 #![tactic(auto)]
+
+mod kind;
+mod tree;
+
+pub use gn_kinds::SocketKind;
+pub use kind::Kind;
+pub use tree::{Group, Node, Setting, Socket, Tree, TreeInput, TreeLink, Zone};

@@ -1,0 +1,6 @@
+pub mod Text
+pub mod Constant
+pub mod Form
+pub mod Walk
+pub mod Order
+pub mod Seen

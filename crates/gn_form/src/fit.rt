@@ -1,0 +1,222 @@
+ghost use Rattle.std.specs.Prelude.{◌≡◌, option_map, map};
+ghost use Rattle.gn_kinds.specs.Seen.{row_of, input_of};
+ghost use Rattle.gn_kinds.specs.Row.{input_name as row_input_name};
+ghost use Rattle.gn_form.specs.Form as is;
+ghost use Rattle.gn_form.specs.Text.{is_id};
+ghost use Rattle.gn_form.specs.Seen.{form_of};
+ghost use Rattle.serde_json.specs.View.{view, items_view, members_view};
+
+use crate::constant::{constant_as, constant_in, three_numbers};
+use crate::form::Form;
+use crate::key::{has_keys, row_in_node};
+use crate::text::{is_column_name, is_file_name, is_id, is_word};
+use gn_kinds::{InputRow, Row, SocketKind, find_kind, find_place, find_row};
+use gn_value::Place;
+use serde_json::{Map, Value};
+
+fn has_object(items: &[Value]) -> bool
+    ensures { result ≡ is.has_object (items_view items.now) }
+{
+    for value in items {
+        if value.is_object() {
+            return true;
+        }
+    }
+    false
+}
+
+/// Whether an array is one of links: it is empty, or has an object.
+#[tactic(auto, using(crate::proofs::Counts::some_links))]
+pub fn are_links(items: &[Value]) -> bool
+    ensures { result ≡ is.are_links (items_view items.now) }
+{
+    match items {
+        [] => true,
+        _ => has_object(items),
+    }
+}
+
+fn is_input(value: &Value) -> bool
+    ensures { result ≡ is.is_input (view value.now) }
+{
+    match value {
+        Value::Array(items) => are_links(items) | three_numbers(items).is_some(),
+        Value::Object(_) => has_keys(Form::Link, None, value),
+        Value::Null => false,
+        Value::Bool(_) => constant_in(value).is_some(),
+        Value::Number(_) => constant_in(value).is_some(),
+        Value::String(_) => constant_in(value).is_some(),
+    }
+}
+
+fn input_name(input: InputRow) -> &'static str
+    ensures { result.now ≡ row_input_name (input_of input) }
+{
+    match input {
+        InputRow::Field(name, _, _) => name,
+        InputRow::Single(name, _, _) => name,
+        InputRow::Geometry(name) => name,
+        InputRow::Geometries(name) => name,
+        InputRow::Chosen(name, _) => name,
+    }
+}
+
+fn has_input(inputs: &'static [InputRow], key: &str) -> bool
+    ensures { result ≡ is.has_input (map input_of inputs.now) key.now }
+{
+    for input in inputs {
+        if input_name(*input) == key {
+            return true;
+        }
+    }
+    false
+}
+
+fn are_ids(members: &Map<String, Value>) -> bool
+    ensures { result ≡ is.all_keys is_id (members_view members.now.entries) }
+{
+    for (key, _member) in members.iter() {
+        if !is_id(key) {
+            return false;
+        }
+    }
+    true
+}
+
+fn are_inputs_of(inputs: &'static [InputRow], members: &Map<String, Value>) -> bool
+    ensures { result ≡ is.all_keys (is.has_input (map input_of inputs.now)) (members_view members.now.entries) }
+{
+    for (key, _member) in members.iter() {
+        if !has_input(inputs, key) {
+            return false;
+        }
+    }
+    true
+}
+
+fn is_format(value: &Value) -> bool
+    ensures { result ≡ is.fits is.the_format (view value.now) }
+{
+    match value.as_u64() {
+        Some(number) => number == 1,
+        None => false,
+    }
+}
+
+fn is_id_text(value: &Value) -> bool
+    ensures { result ≡ is.fits is.an_id (view value.now) }
+{
+    match value.as_str() {
+        Some(text) => is_id(text),
+        None => false,
+    }
+}
+
+fn is_node_kind(value: &Value) -> bool
+    ensures { result ≡ is.fits is.a_node_kind (view value.now) }
+{
+    match value.as_str() {
+        Some(text) => find_row(text).is_some(),
+        None => false,
+    }
+}
+
+fn is_column_text(value: &Value) -> bool
+    ensures { result ≡ is.fits is.a_column_name (view value.now) }
+{
+    match value.as_str() {
+        Some(text) => is_column_name(text),
+        None => false,
+    }
+}
+
+fn is_file_text(value: &Value) -> bool
+    ensures { result ≡ is.fits is.a_file_name (view value.now) }
+{
+    match value.as_str() {
+        Some(text) => is_file_name(text),
+        None => false,
+    }
+}
+
+fn is_kind_text(kinds: &'static [SocketKind], value: &Value) -> bool
+    ensures { result ≡ is.fits (is.a_kind_in kinds.now) (view value.now) }
+{
+    match value.as_str() {
+        Some(text) => find_kind(kinds, text).is_some(),
+        None => false,
+    }
+}
+
+fn is_word_text(words: &'static [&'static str], value: &Value) -> bool
+    ensures { result ≡ is.fits (is.a_word_of (map (λ w. w.now) words.now)) (view value.now) }
+{
+    match value.as_str() {
+        Some(text) => is_word(words, text),
+        None => false,
+    }
+}
+
+fn is_place_text(places: &'static [Place], value: &Value) -> bool
+    ensures { result ≡ is.fits (is.a_place_in places.now) (view value.now) }
+{
+    match value.as_str() {
+        Some(text) => find_place(places, text).is_some(),
+        None => false,
+    }
+}
+
+fn are_outputs(value: &Value) -> bool
+    ensures { result ≡ is.fits is.outputs (view value.now) }
+{
+    match value.as_object() {
+        Some(members) => are_ids(members),
+        None => false,
+    }
+}
+
+fn are_inputs(row: &'static Row, value: &Value) -> bool
+    ensures { result ≡ is.fits (is.inputs_of (row_of row.now)) (view value.now) }
+{
+    match value.as_object() {
+        Some(members) => {
+            if row.open {
+                return true;
+            }
+            are_inputs_of(row.inputs, members)
+        }
+        None => false,
+    }
+}
+
+/// Whether the value is of its form; what stands in it is not looked at.
+pub(crate) fn fits(form: Form, value: &Value) -> bool
+    ensures { result ≡ is.fits (form_of form) (view value.now) }
+{
+    match form {
+        Form::Format => is_format(value),
+        Form::Id => is_id_text(value),
+        Form::NodeKind => is_node_kind(value),
+        Form::Truth => value.as_bool().is_some(),
+        Form::ColumnName => is_column_text(value),
+        Form::FileName => is_file_text(value),
+        Form::KindIn(kinds) => is_kind_text(kinds, value),
+        Form::WordOf(words) => is_word_text(words, value),
+        Form::PlaceIn(places) => is_place_text(places, value),
+        Form::ConstantAs(kind) => constant_as(kind, value).is_some(),
+        Form::Groups => value.is_array(),
+        Form::Sockets => value.is_array(),
+        Form::Nodes => value.is_array(),
+        Form::Outputs => are_outputs(value),
+        Form::InputsOf(row) => are_inputs(row, value),
+        Form::AnyInputs => value.is_object(),
+        Form::AnyObject => value.is_object(),
+        Form::Input => is_input(value),
+        Form::Tree => has_keys(form, row_in_node(value), value),
+        Form::Group => has_keys(form, row_in_node(value), value),
+        Form::Socket => has_keys(form, row_in_node(value), value),
+        Form::Node => has_keys(form, row_in_node(value), value),
+        Form::Link => has_keys(form, row_in_node(value), value),
+        Form::SettingsOf(_) => has_keys(form, row_in_node(value), value),
+    }
+}

@@ -1,0 +1,83 @@
+ghost use Rattle.std.specs.Prelude.{◌≡◌};
+ghost use Rattle.gn_kinds.specs.Seen.{setting_of};
+ghost use Rattle.gn_form.specs.Form as is;
+ghost use Rattle.gn_form.specs.Seen.{form_of};
+
+use gn_kinds::{Row, SettingForm, SocketKind};
+use gn_value::{Place, ValueKind};
+
+/// What a value must be.
+#[derive(Clone, Copy)]
+pub(crate) enum Form {
+    Tree,
+    Group,
+    Socket,
+    Node,
+    Link,
+    Input,
+    Format,
+    Id,
+    NodeKind,
+    Truth,
+    ColumnName,
+    FileName,
+    KindIn(&'static [SocketKind]),
+    WordOf(&'static [&'static str]),
+    PlaceIn(&'static [Place]),
+    ConstantAs(ValueKind),
+    Groups,
+    Sockets,
+    Nodes,
+    /// An object from ids to inputs.
+    Outputs,
+    InputsOf(&'static Row),
+    SettingsOf(&'static Row),
+    /// The inputs and settings of a node whose kind is none.
+    AnyInputs,
+    AnyObject,
+}
+
+/// The key of a setting.
+pub(crate) fn setting_name(setting: SettingForm) -> &'static str
+    ensures { result.now ≡ (is.setting_key (setting_of setting)).name }
+{
+    match setting {
+        SettingForm::Type(_) => "type",
+        SettingForm::Op(_) => "op",
+        SettingForm::Place(_) => "place",
+        SettingForm::Clamp => "clamp",
+        SettingForm::Name => "name",
+        SettingForm::File => "file",
+        SettingForm::Value(_) => "value",
+        SettingForm::Group => "group",
+        SettingForm::Items => "items",
+        SettingForm::Nodes => "nodes",
+        SettingForm::Output => "output",
+    }
+}
+
+/// Whether a setting is required.
+pub(crate) fn is_required(setting: SettingForm) -> bool
+    ensures { result ≡ (is.setting_key (setting_of setting)).needed }
+{
+    !matches!(setting, SettingForm::Output)
+}
+
+/// What the value of a setting must be.
+pub(crate) fn setting_form(setting: SettingForm) -> Form
+    ensures { form_of result ≡ (is.setting_key (setting_of setting)).form }
+{
+    match setting {
+        SettingForm::Type(kinds) => Form::KindIn(kinds),
+        SettingForm::Op(names) => Form::WordOf(names),
+        SettingForm::Place(places) => Form::PlaceIn(places),
+        SettingForm::Clamp => Form::Truth,
+        SettingForm::Name => Form::ColumnName,
+        SettingForm::File => Form::FileName,
+        SettingForm::Value(kind) => Form::ConstantAs(kind),
+        SettingForm::Group => Form::Id,
+        SettingForm::Items => Form::Sockets,
+        SettingForm::Nodes => Form::Nodes,
+        SettingForm::Output => Form::Outputs,
+    }
+}

@@ -1,0 +1,522 @@
+use crate::first_misfit;
+use gn_places::place_text;
+use serde_json::Value;
+use std::alloc::Global;
+use std::process::Abort;
+use std::test::Fail;
+
+/// Compares the text of the first place that is not of its form, or `none`.
+fn expect_place(rt: &impl Abort, alloc: Global, text: &str, place: &str) -> Result<(), Fail> {
+    let tree = Value::from_slice(alloc, text.as_bytes())?;
+    let found = match first_misfit(alloc, &tree)? {
+        Some(found) => place_text(alloc, &found)?,
+        None => String::from_str(alloc, "none")?,
+    };
+    assert_eq!(rt; found.as_str(), place, "{text}");
+    Ok(())
+}
+
+/// Whole trees.
+static TREES: [(&str, &str); 24] = [
+    (r#"{"format":1,"nodes":[]}"#, "none"),
+    (
+        r#"{"nodes":[],"groups":[],"output":true,"format":1}"#,
+        "none",
+    ),
+    (r#"{"format":0,"nodes":[]}"#, "/format"),
+    (r#"{"format":1.0,"nodes":[]}"#, "/format"),
+    (r#"{"format":-0,"nodes":[]}"#, "/format"),
+    (r#"{"format":2,"nodes":[]}"#, "/format"),
+    (r#"{"format":"1","nodes":{}}"#, "/format"),
+    (r#"{"format":2,"format":1,"nodes":[]}"#, "none"),
+    (r#"{"format":1}"#, "/"),
+    (r#"{"format":1,"nodes":[],"name":"a"}"#, "/"),
+    (r#"[]"#, "/"),
+    (r#"{"format":1,"nodes":{}}"#, "/nodes"),
+    (r#"{"format":1,"nodes":[],"output":[]}"#, "none"),
+    (r#"{"format":1,"nodes":[],"output":{}}"#, "/output"),
+    (
+        r#"{"format":1,"nodes":[],"output":{"from":"a","socket":"B"}}"#,
+        "/output/socket",
+    ),
+    (r#"{"format":1,"nodes":[],"output":null}"#, "/output"),
+    (
+        r#"{"format":1,"nodes":[],"groups":[{"name":"g","inputs":[],"outputs":[],"nodes":[]}]}"#,
+        "none",
+    ),
+    (
+        r#"{"format":1,"nodes":[],"groups":[{"name":"g","inputs":[],"nodes":[]}]}"#,
+        "/groups/0",
+    ),
+    (
+        r#"{"format":1,"nodes":[3],"groups":[{"name":"G","inputs":[{"name":"a","kind":"bool"}],"outputs":[],"nodes":[]}]}"#,
+        "/groups/0/inputs/0/kind",
+    ),
+    (
+        r#"{"format":1,"nodes":[],"groups":[{"name":"g","inputs":[],"outputs":[{"name":"a","kind":"geometry","list":true}],"nodes":[]}]}"#,
+        "/groups/0/outputs/0",
+    ),
+    (
+        r#"{"format":1,"nodes":[],"groups":[{"name":"g","inputs":[],"outputs":[],"nodes":[],"output":{"Value":1}}]}"#,
+        "/groups/0/output",
+    ),
+    (
+        r#"{"format":1,"nodes":[],"groups":[{"name":"g","inputs":[],"outputs":[],"nodes":[],"output":{"a":1,"b":"x"}}]}"#,
+        "/groups/0/output/b",
+    ),
+    (
+        r#"{"format":1,"nodes":[{"id":"a","kind":"index"},7,8]}"#,
+        "/nodes/1",
+    ),
+    (
+        r#"{"format":1,"nodes":[{"id":"a","kind":"index"}],"groups":7}"#,
+        "/groups",
+    ),
+];
+
+#[test]
+fn names_the_first_misfit_of_a_tree(rt: HostRuntime) -> Result<(), Fail> {
+    for (text, place) in TREES {
+        expect_place(&rt, rt.alloc(), text, place)?;
+    }
+    Ok(())
+}
+
+/// Nodes of a tree with one node, and the place in the node.
+static NODES: [(&str, &str); 48] = [
+    (r#"{"id":"a","kind":"index","set":{},"in":{}}"#, "none"),
+    (r#"{"id":"a","kind":"index","set":[]}"#, "/nodes/0/set"),
+    (r#"{"id":"a","kind":"index","at":1}"#, "/nodes/0"),
+    (r#"{"kind":"index"}"#, "/nodes/0"),
+    (r#"{"id":"a"}"#, "/nodes/0"),
+    (r#"{"id":"","kind":"index"}"#, "/nodes/0/id"),
+    (
+        r#"{"id":"a_0123456789012345678901234567890","kind":"index"}"#,
+        "/nodes/0/id",
+    ),
+    (
+        r#"{"id":"a_012345678901234567890123456789","kind":"index"}"#,
+        "none",
+    ),
+    (r#"{"id":"a-b","kind":"index"}"#, "/nodes/0/id"),
+    (r#"{"id":7,"kind":"indices"}"#, "/nodes/0/id"),
+    (r#"{"id":"a","kind":"index_switch"}"#, "/nodes/0/kind"),
+    (
+        r#"{"id":"a","kind":"cube","in":{"size":["1","1","x"]}}"#,
+        "/nodes/0/in/size",
+    ),
+    (
+        r#"{"id":"a","kind":"cube","in":{"size":["1","1","2"]}}"#,
+        "none",
+    ),
+    (
+        r#"{"id":"a","kind":"cube","in":{"size":["1","1"]}}"#,
+        "/nodes/0/in/size",
+    ),
+    (r#"{"id":"a","kind":"cube","in":{"size":[]}}"#, "none"),
+    (
+        r#"{"id":"a","kind":"cube","in":{"size":[{"from":"b","socket":"c"},"1"]}}"#,
+        "/nodes/0/in/size/1",
+    ),
+    (
+        r#"{"id":"a","kind":"cube","in":{"size":{"from":"b"}}}"#,
+        "/nodes/0/in/size",
+    ),
+    (
+        r#"{"id":"a","kind":"cube","in":{"radius":1}}"#,
+        "/nodes/0/in",
+    ),
+    (
+        r#"{"id":"a","kind":"group","set":{"group":"g"},"in":{"A/b~":null}}"#,
+        "/nodes/0/in/A~1b~0",
+    ),
+    (
+        r#"{"id":"a","kind":"group","set":{"group":"g"},"in":{"A":1}}"#,
+        "none",
+    ),
+    (
+        r#"{"id":"a","kind":"no kind","set":{"x":null},"in":{"y":"1","z":1.5}}"#,
+        "/nodes/0/in/z",
+    ),
+    (
+        r#"{"id":"a","kind":"no kind","set":{"x":null},"in":{"y":"1"}}"#,
+        "/nodes/0/kind",
+    ),
+    (r#"{"id":"a","kind":"no kind","set":0}"#, "/nodes/0/kind"),
+    (r#"{"id":"a","kind":"float"}"#, "/nodes/0"),
+    (r#"{"id":"a","kind":"float","set":{}}"#, "/nodes/0/set"),
+    (
+        r#"{"id":"a","kind":"float","set":{"value":0.5}}"#,
+        "/nodes/0/set/value",
+    ),
+    (r#"{"id":"a","kind":"float","set":{"value":"0.5"}}"#, "none"),
+    (
+        r#"{"id":"a","kind":"float","set":{"value":"0.5","op":"add"}}"#,
+        "/nodes/0/set",
+    ),
+    (
+        r#"{"id":"a","kind":"integer","set":{"value":2147483647}}"#,
+        "none",
+    ),
+    (
+        r#"{"id":"a","kind":"integer","set":{"value":2147483648}}"#,
+        "/nodes/0/set/value",
+    ),
+    (
+        r#"{"id":"a","kind":"integer","set":{"value":-2147483648}}"#,
+        "none",
+    ),
+    (
+        r#"{"id":"a","kind":"integer","set":{"value":-2147483649}}"#,
+        "/nodes/0/set/value",
+    ),
+    (
+        r#"{"id":"a","kind":"integer","set":{"value":true}}"#,
+        "/nodes/0/set/value",
+    ),
+    (
+        r#"{"id":"a","kind":"boolean","set":{"value":0}}"#,
+        "/nodes/0/set/value",
+    ),
+    (
+        r#"{"id":"a","kind":"vector","set":{"value":["1e-2",".5","-3"]}}"#,
+        "none",
+    ),
+    (
+        r#"{"id":"a","kind":"math","set":{"op":"scale"}}"#,
+        "/nodes/0/set/op",
+    ),
+    (
+        r#"{"id":"a","kind":"compare","set":{"type":"vector","op":"less"}}"#,
+        "/nodes/0/set/type",
+    ),
+    (
+        r#"{"id":"a","kind":"switch","set":{"type":"geometry"}}"#,
+        "none",
+    ),
+    (
+        r#"{"id":"a","kind":"named_attribute","set":{"name":"n","type":"geometry"}}"#,
+        "/nodes/0/set/type",
+    ),
+    (
+        r#"{"id":"a","kind":"named_attribute","set":{"name":"position","type":"int"}}"#,
+        "/nodes/0/set/name",
+    ),
+    (
+        r#"{"id":"a","kind":"named_attribute","set":{"name":"a b","type":"int"}}"#,
+        "/nodes/0/set/name",
+    ),
+    (
+        r#"{"id":"a","kind":"named_attribute","set":{"name":"Position!~","type":"int"}}"#,
+        "none",
+    ),
+    (
+        r#"{"id":"a","kind":"delete_geometry","set":{"place":"corner"}}"#,
+        "/nodes/0/set/place",
+    ),
+    (
+        r#"{"id":"a","kind":"map_range","set":{"clamp":1}}"#,
+        "/nodes/0/set/clamp",
+    ),
+    (
+        r#"{"id":"a","kind":"import_obj","set":{"file":"a\u007f"}}"#,
+        "/nodes/0/set/file",
+    ),
+    (
+        r#"{"id":"a","kind":"import_obj","set":{"file":"ä.obj"}}"#,
+        "none",
+    ),
+    (
+        r#"{"id":"a","kind":"repeat","set":{"items":[],"nodes":[{"id":"b","kind":"c"}]}}"#,
+        "/nodes/0/set/nodes/0/kind",
+    ),
+    (
+        r#"{"id":"a","kind":"repeat","set":{"items":[],"nodes":[],"output":{"x":[1]}}}"#,
+        "/nodes/0/set/output/x",
+    ),
+];
+
+#[test]
+fn names_the_first_misfit_of_a_node(rt: HostRuntime) -> Result<(), Fail> {
+    let alloc = rt.alloc();
+    for (node, place) in NODES {
+        let text = format!(in alloc; "{{\"format\":1,\"nodes\":[{node}]}}")?;
+        expect_place(&rt, alloc, &text, place)?;
+    }
+    Ok(())
+}
+
+/// Settings of that many bytes, and the place in a tree of one node.
+static LENGTHS: [(&str, &str, usize, &str); 4] = [
+    ("remove_named_attribute", "name", 64, "none"),
+    ("remove_named_attribute", "name", 65, "/nodes/0/set/name"),
+    ("import_obj", "file", 255, "none"),
+    ("import_obj", "file", 256, "/nodes/0/set/file"),
+];
+
+#[test]
+fn names_and_files_have_a_greatest_length(rt: HostRuntime) -> Result<(), Fail> {
+    let alloc = rt.alloc();
+    for (kind, key, length, place) in LENGTHS {
+        let name = "n".repeat(alloc, length)?;
+        let text = format!(in alloc;
+            "{{\"format\":1,\"nodes\":[{{\"id\":\"a\",\"kind\":\"{kind}\",\"set\":{{\"{key}\":\"{name}\"}}}}]}}"
+        )?;
+        expect_place(&rt, alloc, &text, place)?;
+    }
+    Ok(())
+}
+
+/// Trees in which a value is not of its form behind others that are, one for each form that can be
+/// the first. Of a node whose kind is none, `kind` comes before a `set` that is no object.
+static FORMS: [(&str, &str); 23] = [
+    (
+        r#"{"zone":0,"format":1,"nodes":[],"groups":[],"output":1}"#,
+        "/",
+    ),
+    (
+        r#"{"format":1,"nodes":[],"groups":[{"name":"g","inputs":[],"outputs":[],"nodes":[]},7]}"#,
+        "/groups/1",
+    ),
+    (
+        r#"{"format":1,"nodes":[],"groups":[{"name":"g","inputs":[{"name":"a","kind":"int"},null],"outputs":[],"nodes":[]}]}"#,
+        "/groups/0/inputs/1",
+    ),
+    (
+        r#"{"format":1,"nodes":[{"id":"a","kind":"index"},[]]}"#,
+        "/nodes/1",
+    ),
+    (
+        r#"{"format":1,"nodes":[{"id":"a","kind":"join_geometry","in":{"geometry":[{"from":"b","socket":"c"},"1"]}}]}"#,
+        "/nodes/0/in/geometry/1",
+    ),
+    (
+        r#"{"format":1,"nodes":[{"id":"a","kind":"clamp","in":{"value":null,"min":"0"}}]}"#,
+        "/nodes/0/in/value",
+    ),
+    (r#"{"nodes":[7],"format":true}"#, "/format"),
+    (
+        r#"{"format":1,"nodes":[{"id":"a","kind":"index"},{"id":"A","kind":"index"}]}"#,
+        "/nodes/1/id",
+    ),
+    (
+        r#"{"format":1,"nodes":[{"id":"a","kind":"index"},{"id":"b","kind":"cubes"}]}"#,
+        "/nodes/1/kind",
+    ),
+    (
+        r#"{"format":1,"nodes":[{"id":"a","kind":"index"},{"id":"b","kind":"sample_index","set":{"type":"int","place":"point","clamp":0}}]}"#,
+        "/nodes/1/set/clamp",
+    ),
+    (
+        r#"{"format":1,"nodes":[{"id":"a","kind":"index"},{"id":"b","kind":"remove_named_attribute","set":{"name":""}}]}"#,
+        "/nodes/1/set/name",
+    ),
+    (
+        r#"{"format":1,"nodes":[{"id":"a","kind":"index"},{"id":"b","kind":"import_obj","set":{"file":""}}]}"#,
+        "/nodes/1/set/file",
+    ),
+    (
+        r#"{"format":1,"nodes":[{"id":"a","kind":"compare","set":{"op":"less","type":"float"}}]}"#,
+        "/nodes/0/set/type",
+    ),
+    (
+        r#"{"format":1,"nodes":[{"id":"a","kind":"index"},{"id":"b","kind":"compare","set":{"op":"<","type":"int"}}]}"#,
+        "/nodes/1/set/op",
+    ),
+    (
+        r#"{"format":1,"nodes":[{"id":"a","kind":"index"},{"id":"b","kind":"evaluate_on_domain","set":{"place":"vertex","type":"int"}}]}"#,
+        "/nodes/1/set/place",
+    ),
+    (
+        r#"{"format":1,"nodes":[{"id":"a","kind":"index"},{"id":"b","kind":"vector","set":{"value":["0","0","0","0"]}}]}"#,
+        "/nodes/1/set/value",
+    ),
+    (r#"{"nodes":[7],"format":1,"groups":{}}"#, "/groups"),
+    (
+        r#"{"format":1,"nodes":[],"groups":[{"name":"g","inputs":[],"outputs":7,"nodes":[]}]}"#,
+        "/groups/0/outputs",
+    ),
+    (
+        r#"{"format":1,"nodes":[],"groups":[{"name":"g","inputs":[],"outputs":[],"nodes":null}]}"#,
+        "/groups/0/nodes",
+    ),
+    (
+        r#"{"format":1,"nodes":[],"groups":[{"name":"g","inputs":[],"outputs":[],"nodes":[],"output":[]}]}"#,
+        "/groups/0/output",
+    ),
+    (
+        r#"{"format":1,"nodes":[{"id":"a","kind":"index"},{"id":"b","kind":"clamp","in":[]}]}"#,
+        "/nodes/1/in",
+    ),
+    (
+        r#"{"format":1,"nodes":[{"id":"a","kind":"index"},{"id":"b","kind":"float","set":"value"}]}"#,
+        "/nodes/1/set",
+    ),
+    (
+        r#"{"format":1,"nodes":[{"id":"a","kind":"index"},{"id":"b","kind":"no kind","in":1}]}"#,
+        "/nodes/1/in",
+    ),
+];
+
+#[test]
+fn names_a_misfit_of_each_form(rt: HostRuntime) -> Result<(), Fail> {
+    for (text, place) in FORMS {
+        expect_place(&rt, rt.alloc(), text, place)?;
+    }
+    Ok(())
+}
+
+/// Trees in which a key is missing or unknown, at each level.
+static KEYS: [(&str, &str); 21] = [
+    (r#"{"nodes":[]}"#, "/"),
+    (r#"{"format":1,"nodes":[],"Nodes":[]}"#, "/"),
+    (
+        r#"{"format":1,"nodes":[],"groups":[{"inputs":[],"outputs":[],"nodes":[]}]}"#,
+        "/groups/0",
+    ),
+    (
+        r#"{"format":1,"nodes":[],"groups":[{"name":"g","outputs":[],"nodes":[]}]}"#,
+        "/groups/0",
+    ),
+    (
+        r#"{"format":1,"nodes":[],"groups":[{"name":"g","inputs":[],"outputs":[]}]}"#,
+        "/groups/0",
+    ),
+    (
+        r#"{"format":1,"nodes":[],"groups":[{"name":"g","inputs":[],"outputs":[],"nodes":[],"kind":"group"}]}"#,
+        "/groups/0",
+    ),
+    (
+        r#"{"format":1,"nodes":[],"groups":[{"name":"g","inputs":[{"name":"a"}],"outputs":[],"nodes":[]}]}"#,
+        "/groups/0/inputs/0",
+    ),
+    (
+        r#"{"format":1,"nodes":[],"groups":[{"name":"g","inputs":[{"kind":"int"}],"outputs":[],"nodes":[]}]}"#,
+        "/groups/0/inputs/0",
+    ),
+    (
+        r#"{"format":1,"nodes":[],"groups":[{"name":"g","inputs":[],"outputs":[],"nodes":[{"id":"a","kind":"index","type":"int"}]}]}"#,
+        "/groups/0/nodes/0",
+    ),
+    (
+        r#"{"format":1,"nodes":[],"output":{"from":"a"}}"#,
+        "/output",
+    ),
+    (
+        r#"{"format":1,"nodes":[],"output":{"socket":"a"}}"#,
+        "/output",
+    ),
+    (
+        r#"{"format":1,"nodes":[],"output":{"from":"a","socket":"b","to":"c"}}"#,
+        "/output",
+    ),
+    (
+        r#"{"format":1,"nodes":[{"id":"a","kind":"join_geometry","in":{"geometry":[{"from":"b","socket":"c"},{"socket":"c"}]}}]}"#,
+        "/nodes/0/in/geometry/1",
+    ),
+    (
+        r#"{"format":1,"nodes":[{"id":"a","kind":"join_geometry","in":{"geometry":[{"from":"b","socket":"c","":0}]}}]}"#,
+        "/nodes/0/in/geometry/0",
+    ),
+    (
+        r#"{"format":1,"nodes":[{"id":"a","kind":"compare","set":{"op":"less"}}]}"#,
+        "/nodes/0/set",
+    ),
+    (
+        r#"{"format":1,"nodes":[{"id":"a","kind":"index","set":{"value":1}}]}"#,
+        "/nodes/0/set",
+    ),
+    (
+        r#"{"format":1,"nodes":[{"id":"a","kind":"repeat","set":{"items":[]}}]}"#,
+        "/nodes/0/set",
+    ),
+    (
+        r#"{"format":1,"nodes":[{"id":"a","kind":"repeat","set":{"nodes":[]}}]}"#,
+        "/nodes/0/set",
+    ),
+    (
+        r#"{"format":1,"nodes":[{"id":"a","kind":"repeat","set":{"items":[],"nodes":[],"inputs":[]}}]}"#,
+        "/nodes/0/set",
+    ),
+    (
+        r#"{"format":1,"nodes":[{"id":"a","kind":"repeat","set":{"items":[{"name":"x","kind":"int","value":0}],"nodes":[]}}]}"#,
+        "/nodes/0/set/items/0",
+    ),
+    (
+        r#"{"format":1,"nodes":[{"id":"a","kind":"repeat","set":{"items":[],"nodes":[{"id":"b","kind":"import_obj"}]}}]}"#,
+        "/nodes/0/set/nodes/0",
+    ),
+];
+
+#[test]
+fn names_the_object_where_a_key_is_unknown_or_missing(rt: HostRuntime) -> Result<(), Fail> {
+    for (text, place) in KEYS {
+        expect_place(&rt, rt.alloc(), text, place)?;
+    }
+    Ok(())
+}
+
+/// Trees that break their form at several places.
+static SEVERAL: [(&str, &str); 6] = [
+    (r#"{"format":0,"nodes":{},"color":1}"#, "/"),
+    (
+        r#"{"nodes":{},"groups":[{"name":"g","inputs":[],"outputs":[],"nodes":[{"id":"","kind":""}]}],"format":1}"#,
+        "/groups/0/nodes/0/id",
+    ),
+    (
+        r#"{"format":1,"nodes":[{"id":"a","kind":"group","set":{"group":"g"},"in":{"b":null,"a":null,"B":null}}]}"#,
+        "/nodes/0/in/B",
+    ),
+    (
+        r#"{"format":1,"nodes":[{"set":{"value":1},"kind":"float","in":{},"id":7}]}"#,
+        "/nodes/0/id",
+    ),
+    (
+        r#"{"format":1,"nodes":[{"id":"a","kind":"index"},{"id":"a","kind":"index"},0,{},{},{},{},{},{},{},0]}"#,
+        "/nodes/2",
+    ),
+    (
+        r#"{"format":1,"nodes":[{"id":"a","kind":"repeat","set":{"output":{"x":null},"nodes":[{"id":"b","kind":"float"}],"items":[]}}]}"#,
+        "/nodes/0/set/nodes/0",
+    ),
+];
+
+#[test]
+fn names_the_first_of_several_misfits(rt: HostRuntime) -> Result<(), Fail> {
+    for (text, place) in SEVERAL {
+        expect_place(&rt, rt.alloc(), text, place)?;
+    }
+    Ok(())
+}
+
+/// Inputs, and whether each is one: the numbers that are no whole ones of 32 bits, and the texts that
+/// are no numbers.
+static INPUTS: [(&str, bool); 17] = [
+    ("0", true),
+    ("-1", true),
+    ("2147483648", false),
+    ("-2147483649", false),
+    ("9223372036854775808", false),
+    ("18446744073709551616", false),
+    ("-9223372036854775809", false),
+    ("-0", false),
+    ("1.0", false),
+    ("1e0", false),
+    (r#""1e99""#, true),
+    (r#""1e400""#, false),
+    (r#""""#, false),
+    (r#"["1","2","3"]"#, true),
+    (r#"["1","2","3","4"]"#, false),
+    (r#"["1","2",3]"#, false),
+    ("[[]]", false),
+];
+
+#[test]
+fn tells_inputs_from_other_values(rt: HostRuntime) -> Result<(), Fail> {
+    let alloc = rt.alloc();
+    for (input, good) in INPUTS {
+        let text = format!(in alloc; "{{\"format\":1,\"nodes\":[],\"output\":{input}}}")?;
+        expect_place(&rt, alloc, &text, if good { "none" } else { "/output" })?;
+    }
+    Ok(())
+}
