@@ -1,1 +1,5 @@
 pub mod Tree
+pub mod Exact
+pub mod Typed
+pub mod Settings
+pub mod Answers

@@ -10,7 +10,7 @@ use Rattle.serde_json.specs.Read.{read}
 use Rattle.serde_json.specs.Find.{get, as_str, as_array, as_number, as_u64}
 use Rattle.gn_value.specs.declared.vector.V3.{V3}
 use Rattle.gn_value.specs.declared.value.Value.TheVariants.{Vector as vector}
-use Rattle.gn_obj.specs.Read.{vector_of}
+use Rattle.gn_obj.specs.ShortNumbers.{vector_of}
 use Rattle.gn_tree.specs.Tree.{Text, a_constant, a_link, node, no_settings, no_nodes, one_node, Tree}
 
 -- the JSON value that the bytes are

@@ -1,5 +1,21 @@
-//! What tree a JSON text is.
+//! Reading a tree from its JSON text.
 //!
-//! The crate holds definitions alone so far, for trees of a first form: one node that moves every
-//! vertex by the same offset. It stands on `gn_tree`, `gn_obj` and `serde_json`, which reads the text.
+//! `read` promises which text is a tree and which tree it is: `Text` where the bytes are no JSON,
+//! `Form` with the first place where the value is not of a tree's form, and else the tree that the
+//! value is, of which nothing is made up. Each value of the form is proved to be such a tree, so there
+//! is no other answer but want of memory. The form is looked at by `gn_form` first, and the tree is made
+//! after it. The crate stands on `gn_form`, `gn_tree` and `serde_json`, which reads the text; the
+//! module `Tree` of the definitions has the first form that the program takes, by `gn_obj`.
 #![tactic(auto)]
+
+mod fault;
+mod node;
+mod part;
+mod setting;
+mod tree;
+
+pub use fault::JsonFault;
+pub use tree::read;
+
+#[cfg(test)]
+mod tests;

@@ -1,0 +1,15 @@
+use thiserror::Error;
+
+/// Why a text is no tree.
+#[derive(Debug, Drop, Error)]
+pub enum JsonFault {
+    /// The bytes are no JSON.
+    #[error("not JSON")]
+    Text,
+    /// The value at that place, a JSON Pointer, is not of its form. The top is `/`.
+    #[error("not of its form at {place}")]
+    Form { place: String },
+    /// There was no memory.
+    #[error("out of memory")]
+    Memory,
+}

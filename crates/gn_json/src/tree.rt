@@ -1,0 +1,158 @@
+ghost use Rattle.std.specs.Prelude.{◌≡◌, IfOk, map, option_map};
+ghost use Rattle.serde_json.specs.View.{view, items_view};
+ghost use Rattle.gn_tree.specs.Seen as seen;
+ghost use Rattle.gn_tree.specs.Rising.{NamesRiseInTree};
+ghost use Rattle.gn_json.specs.Typed as spec;
+ghost use Rattle.gn_json.specs.Answers.{Answers, IsTreeWhereFit, Judged};
+
+use crate::fault::JsonFault;
+use crate::node::nodes_among;
+use crate::part::{input_in, inputs_at, sockets_at, string_at};
+use gn_form::first_misfit;
+use gn_memory::Memory;
+use gn_places::{Step, place_text};
+use gn_tree::{Group, Node, Tree, TreeInput};
+use serde_json::Value;
+use std::alloc::Global;
+use std::collections::VecDeque;
+
+fn nodes_at(alloc: Global, value: &Value) -> Result<Vec<Node>, Memory>
+    ensures { IfOk result (λ nodes. nodes.items ≡ spec.nodes_at (view value.now)) }
+{
+    match value.as_object() {
+        Some(members) => nodes_among(alloc, members),
+        None => Ok(Vec::new(alloc)),
+    }
+}
+
+fn group_in(alloc: Global, value: &Value) -> Result<Group, Memory>
+    ensures { IfOk result (λ group. seen.group_of group ≡ spec.group_in (view value.now)) }
+{
+    let name = string_at(alloc, value, "name")?;
+    let inputs = sockets_at(alloc, value, "inputs")?;
+    let outputs = sockets_at(alloc, value, "outputs")?;
+    let nodes = nodes_at(alloc, value)?;
+    let output = inputs_at(alloc, value, "output")?;
+    Ok(Group {
+        name,
+        inputs,
+        outputs,
+        nodes,
+        output,
+    })
+}
+
+fn groups_in(alloc: Global, items: &[Value]) -> Result<Vec<Group>, Memory>
+    ensures { IfOk result (λ groups. map seen.group_of groups.items ≡ spec.groups_in (items_view items.now)) }
+{
+    let mut groups = Vec::with_capacity(alloc, items.len())?;
+    for item in items {
+        groups.push(group_in(alloc, item)?)?;
+    }
+    Ok(groups)
+}
+
+fn groups_at(alloc: Global, value: &Value) -> Result<Vec<Group>, Memory>
+    ensures { IfOk result (λ groups. map seen.group_of groups.items ≡ (spec.tree_in (view value.now)).groups) }
+{
+    let Some(groups) = value.get("groups") else {
+        return Ok(Vec::new(alloc));
+    };
+    match groups.as_array() {
+        Some(items) => groups_in(alloc, items),
+        None => Ok(Vec::new(alloc)),
+    }
+}
+
+fn output_at(alloc: Global, value: &Value) -> Result<Option<TreeInput>, Memory>
+    ensures { IfOk result (λ output. option_map seen.input_of output ≡ (spec.tree_in (view value.now)).output) }
+{
+    match value.get("output") {
+        Some(output) => {
+            let input = input_in(alloc, output)?;
+            Ok(Some(input))
+        }
+        None => Ok(None),
+    }
+}
+
+fn in_32_bits(number: u64) -> u32
+    ensures { result ≡ spec.in_32_bits number }
+{
+    if number < 4_294_967_296 {
+        return number as u32;
+    }
+    0
+}
+
+fn format_in(value: &Value) -> u32
+    ensures { result ≡ spec.format_in (view value.now) }
+{
+    let Some(format) = value.get("format") else {
+        return 0;
+    };
+    match format.as_u64() {
+        Some(number) => in_32_bits(number),
+        None => 0,
+    }
+}
+
+fn tree_in(alloc: Global, value: &Value) -> Result<Tree, Memory>
+    ensures { IfOk result (λ tree. seen.tree_of tree ≡ spec.tree_in (view value.now)) }
+{
+    let groups = groups_at(alloc, value)?;
+    let nodes = nodes_at(alloc, value)?;
+    let output = output_at(alloc, value)?;
+    Ok(Tree {
+        format: format_in(value),
+        groups,
+        nodes,
+        output,
+    })
+}
+
+/// The tree, or the text of the place that was found.
+fn judge(
+    alloc: Global,
+    value: &Value,
+    found: Result<Option<VecDeque<Step>>, Memory>,
+) -> Result<Tree, JsonFault>
+    ensures { Judged (view value.now) found result }
+{
+    match found {
+        Ok(None) => match tree_in(alloc, value) {
+            Ok(tree) => Ok(tree),
+            Err(_) => Err(JsonFault::Memory),
+        },
+        Ok(Some(place)) => match place_text(alloc, &place) {
+            Ok(place) => Err(JsonFault::Form { place }),
+            Err(_) => Err(JsonFault::Memory),
+        },
+        Err(_) => Err(JsonFault::Memory),
+    }
+}
+
+/// Reads a tree from the bytes of its JSON text. All that is in the tree stands in the text: the value
+/// of each key that must be there, of its shape. The inputs of each node, and what each zone and each
+/// group gives out, stand in the order of their names' bytes.
+///
+/// # Errors
+///
+/// `Text` where the bytes are no JSON as `serde_json` reads it, `Form` with the first place where the
+/// value is not of a tree's form, `Memory` where there was no memory.
+#[tactic(auto, using(crate::proofs::Top::no_json, crate::proofs::Top::is_tree_where_fit))]
+pub fn read(alloc: Global, bytes: &[u8]) -> Result<Tree, JsonFault>
+    ensures answers { Answers bytes.now result }
+    ensures whole { IsTreeWhereFit bytes.now }
+    ensures rising { IfOk result (λ tree. NamesRiseInTree (seen.tree_of tree)) }
+{
+    match Value::from_slice(alloc, bytes) {
+        Ok(value) => judge(alloc, &value, first_misfit(alloc, &value)),
+        Err(error) => {
+            if error.is_memory() {
+                return Err(JsonFault::Memory);
+            }
+            Err(JsonFault::Text)
+        }
+    }
+}
