@@ -1,10 +1,7 @@
-pub mod Spaces
-pub mod Digits
-pub mod Meshes
 pub mod Json
 pub mod Telling
 pub mod Preparing
-pub mod PageLemmas
+pub mod Saying
 pub mod Meaning
 pub mod Running
 pub mod Spelling

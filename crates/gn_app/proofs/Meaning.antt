@@ -52,7 +52,7 @@ moved_from g offset i (x ∷ xs) e =
 stands : (m : Move) (g : Mesh) → value_within library (moving_tree m) (a_geometry (record { mesh = g }) ∷ []) 2 output ≡ Some (a_geometry (record { mesh = moved_mesh g m.offset }))
 stands m g = ap (λ points. Some (a_geometry (record { mesh = record g { points = points } }))) (moved_from g m.offset 0 g.points refl)
 
-pub denotes_moved : (m : Move) (g : Mesh) → bytes_eq m.id (codes "input") ≡ false → Denotes (job_of m g) (record { mesh = moved_mesh g m.offset })
+pub denotes_moved : (m : Move) (g : Mesh) → bytes_eq m.id (codes "input") ≡ false → Denotes (moving_tree m) (record { mesh = g }) (record { mesh = moved_mesh g m.offset })
 denotes_moved m g free = record { place = output; output = output_is m free; stands = (2, stands m g) }
 
 -- of the nodes only the one is wanted

@@ -1,25 +1,157 @@
 -- Words that spell a command.
-use Rattle.std.proofs.Common.{◌≡◌, ◌≤◌, ◌<◌, Bool, true, false, not, List, [], ◌∷◌, length, map, get_or, String, string_bytes, codes, refl, arith}
-use Rattle.std.specs.Prelude.{bytes_eq}
+use Rattle.std.proofs.Common.{◌≡◌, ◌<◌, true, false, List, [], ◌∷◌, length, map, Option, Some, None, Result, Ok, Err, String, string_bytes, refl, sym, ap, ◌∙◌, subst, arith, codes, Bor}
 use Rattle.std.specs.declared.alloc.Global.{Global}
+use Rattle.std.specs.Prelude.{bytes_eq}
 use Rattle.gn_tree.specs.Tree.{Text}
-use Rattle.gn_app.specs.Command.{eval, Spells}
+use Rattle.gn_app.specs.Command.{Command, eval, help, version, Spells, SpellsNone, Begins, IsMisfit}
+use Rattle.gn_app.specs.declared.request.Request.{Request}
+use Rattle.gn_app.specs.declared.request.Request.TheVariants.{Eval, Help, Version}
+use Rattle.gn_app.specs.Seen.{command_of}
+use Rattle.gn_app.specs.Steps.{Reads, ReadsOperands, ReadsAlone}
+use Rattle.std.proofs.lemmas.Slice.Eq.{bytes_eq-Decides}
 use Rattle.gn_app.proofs.Telling.{same_text}
 
-not_false : (b : Bool) → false ≡ not b → true ≡ b
-not_false true e = refl
-not_false false e = cc
+-- no words
+pub no_words : Reads [] (Err None)
+no_words = (elim [ eval t o ↦ λ h. cc | help ↦ λ h. cc | version ↦ λ h. cc ], record { command = help; more = codes "--help" ∷ []; spelled = refl })
 
-texts_of_three : (ws : List (String Global)) (a b c : String Global) → 3 ≤ length ws → length ws < 4 → a ≡ get_or ws 0 a → b ≡ get_or ws 1 b → c ≡ get_or ws 2 c → map string_bytes ws ≡ string_bytes a ∷ string_bytes b ∷ string_bytes c ∷ []
-texts_of_three [] a b c low high p q r = absurd (omega arith)
-texts_of_three (x ∷ []) a b c low high p q r = absurd (omega arith)
-texts_of_three (x ∷ y ∷ []) a b c low high p q r = absurd (omega arith)
-texts_of_three (x ∷ y ∷ z ∷ []) a b c low high p q r = cc
-texts_of_three (x ∷ y ∷ z ∷ w ∷ ws) a b c low high p q r = absurd (omega arith)
+-- ---- behind `eval`
 
--- three words of which the first is `eval`
-pub spells_eval : (ws : List (String Global)) (a b c : String Global) (k t o : Text) → 3 ≤ length ws → length ws < 4 → a ≡ get_or ws 0 a → b ≡ get_or ws 1 b → c ≡ get_or ws 2 c → k ≡ string_bytes a → t ≡ string_bytes b → o ≡ string_bytes c → false ≡ not (bytes_eq k (codes "eval")) → Spells (map string_bytes ws) (eval t o)
-spells_eval ws a b c k t o low high p q r ka tb oc e =
-    let texts = texts_of_three ws a b c low high p q r in
-    let keyword : k ≡ codes "eval" = same_text k (codes "eval") (not_false (bytes_eq k (codes "eval")) e) in
-    cc
+few : (t o : Text) (rest : List Text) (c : Command) → Spells (codes "eval" ∷ t ∷ o ∷ rest) c → rest ≡ []
+few t o rest (eval t' o') h = cc
+few t o rest help h = cc
+few t o rest version h = cc
+
+too_few : (rest : List Text) → length rest < 2 → SpellsNone (codes "eval" ∷ rest)
+too_few rest e (eval t o) h = let e' : rest ≡ t ∷ o ∷ [] = cc in absurd (omega (arith, subst (λ l. length l < 2) e' e))
+too_few rest e help h = cc
+too_few rest e version h = cc
+
+begins_eval : (rest : List Text) → length rest < 2 → Begins (codes "eval" ∷ rest)
+begins_eval [] e = record { command = eval [] []; more = [] ∷ [] ∷ []; spelled = refl }
+begins_eval (t ∷ []) e = record { command = eval t []; more = [] ∷ []; spelled = refl }
+begins_eval (t ∷ o ∷ rest) e = absurd (omega arith)
+
+pub after_eval : (rest : List Text) (r : Result Request (Option (Bor Text))) → ReadsOperands rest r → Reads (codes "eval" ∷ rest) r
+after_eval rest (Ok (Eval t o)) h = ap (λ l. codes "eval" ∷ l) h
+after_eval rest (Ok Help) h = absurd h
+after_eval rest (Ok Version) h = absurd h
+after_eval rest (Err None) h = (too_few rest h, begins_eval rest h)
+after_eval rest (Err (Some word)) (t, o, more, e) =
+    let P : List Text → Type 0 = λ l. SpellsNone (codes "eval" ∷ l) × IsMisfit (codes "eval" ∷ l) word.now in
+    subst P (sym e) (
+      λ c h. behind more (few t o (word.now ∷ more) c h),
+      record {
+        front = codes "eval" ∷ t ∷ o ∷ [];
+        back = more;
+        parts = refl;
+        fits = record { command = eval t o; more = []; spelled = refl };
+        unfit = λ b. behind b.more (few t o (word.now ∷ b.more) b.command b.spelled);
+      },
+    )
+  where
+    behind : (l : List Text) → word.now ∷ l ≡ [] → ⊥
+    behind l e = cc
+
+-- ---- a command of one word
+
+pub after_help : (rest : List Text) (r : Result Request (Option (Bor Text))) → ReadsAlone Help rest r → Reads (codes "--help" ∷ rest) r
+after_help rest (Ok x) h = subst (λ y. Spells (codes "--help" ∷ rest) (command_of y)) (sym h.1) (ap (λ l. codes "--help" ∷ l) h.0)
+after_help rest (Err None) h = absurd h
+after_help rest (Err (Some word)) h =
+    let P : List Text → Type 0 = λ l. SpellsNone (codes "--help" ∷ l) × IsMisfit (codes "--help" ∷ l) word.now in
+    subst P (sym h.1) (
+      elim [ eval t o ↦ λ h. cc | help ↦ λ h. cc | version ↦ λ h. cc ],
+      record {
+        front = codes "--help" ∷ [];
+        back = h.0;
+        parts = refl;
+        fits = record { command = help; more = []; spelled = refl };
+        unfit = λ b. none b.more b.command b.spelled;
+      },
+    )
+  where
+    none : (l : List Text) (c : Command) → Spells (codes "--help" ∷ word.now ∷ l) c → ⊥
+    none l (eval t o) e = cc
+    none l help e = cc
+    none l version e = cc
+
+pub after_version : (rest : List Text) (r : Result Request (Option (Bor Text))) → ReadsAlone Version rest r → Reads (codes "--version" ∷ rest) r
+after_version rest (Ok x) h = subst (λ y. Spells (codes "--version" ∷ rest) (command_of y)) (sym h.1) (ap (λ l. codes "--version" ∷ l) h.0)
+after_version rest (Err None) h = absurd h
+after_version rest (Err (Some word)) h =
+    let P : List Text → Type 0 = λ l. SpellsNone (codes "--version" ∷ l) × IsMisfit (codes "--version" ∷ l) word.now in
+    subst P (sym h.1) (
+      elim [ eval t o ↦ λ h. cc | help ↦ λ h. cc | version ↦ λ h. cc ],
+      record {
+        front = codes "--version" ∷ [];
+        back = h.0;
+        parts = refl;
+        fits = record { command = version; more = []; spelled = refl };
+        unfit = λ b. none b.more b.command b.spelled;
+      },
+    )
+  where
+    none : (l : List Text) (c : Command) → Spells (codes "--version" ∷ word.now ∷ l) c → ⊥
+    none l (eval t o) e = cc
+    none l help e = cc
+    none l version e = cc
+
+-- ---- a first word that no command has
+
+differs : (a b : Text) → bytes_eq a b ≡ false → a ≡ b → ⊥
+differs a b e same = let yes = (bytes_eq-Decides a b).1 same in cc
+
+other_first : (word : Text) (rest : List Text) → bytes_eq word (codes "eval") ≡ false → bytes_eq word (codes "--help") ≡ false → bytes_eq word (codes "--version") ≡ false → SpellsNone (word ∷ rest)
+other_first word rest e f g (eval t o) h = differs word (codes "eval") e cc
+other_first word rest e f g help h = differs word (codes "--help") f cc
+other_first word rest e f g version h = differs word (codes "--version") g cc
+
+pub unknown_first : (word : Bor Text) (rest : List Text) → bytes_eq word.now (codes "eval") ≡ false → bytes_eq word.now (codes "--help") ≡ false → bytes_eq word.now (codes "--version") ≡ false → Reads (word.now ∷ rest) (Err (Some word))
+unknown_first word rest e f g = (
+  other_first word.now rest e f g,
+  record {
+    front = [];
+    back = rest;
+    parts = refl;
+    fits = record { command = help; more = codes "--help" ∷ []; spelled = refl };
+    unfit = λ b. other_first word.now b.more e f g b.command b.spelled;
+  },
+)
+
+-- ---- words as strings
+
+pub three_words : (ws rest more last : List (String Global)) (a b w : String Global) (word : Text) → ws ≡ a ∷ rest → rest ≡ b ∷ more → more ≡ w ∷ last → word ≡ string_bytes w → map string_bytes ws ≡ string_bytes a ∷ string_bytes b ∷ word ∷ map string_bytes last
+three_words ws rest more last a b w word e f h k = rw (e, f, h, k) refl
+
+pub a_word : (ws rest : List (String Global)) (w : String Global) (word : Text) → ws ≡ w ∷ rest → word ≡ string_bytes w → map string_bytes ws ≡ word ∷ map string_bytes rest
+a_word ws rest w word e f = rw (e, f) refl
+
+pub nothing_said : (ws : List (String Global)) → length ws ≡ 0 → Reads (map string_bytes ws) (Err None)
+nothing_said [] e = no_words
+nothing_said (w ∷ ws) e = absurd (omega (arith, e))
+
+-- the first word is a text that begins a command
+module _ (ws rest : List (String Global)) (k : String Global) (text : Text) (r : Result Request (Option (Bor Text))) (e : ws ≡ k ∷ rest) (f : text ≡ string_bytes k) where
+  with_first : (first : Text) → true ≡ bytes_eq text first → Reads (first ∷ map string_bytes rest) r → Reads (map string_bytes ws) r
+  with_first first same h =
+      let word : first ≡ string_bytes k = sym (same_text text first same) ∙ f in
+      let all : first ∷ map string_bytes rest ≡ map string_bytes ws = rw e (ap (λ w. w ∷ map string_bytes rest) word) in
+      subst (λ words. Reads words r) all h
+
+  pub first_eval : true ≡ bytes_eq text (codes "eval") → ReadsOperands (map string_bytes rest) r → Reads (map string_bytes ws) r
+  first_eval same h = with_first (codes "eval") same (after_eval (map string_bytes rest) r h)
+
+  pub first_help : true ≡ bytes_eq text (codes "--help") → ReadsAlone Help (map string_bytes rest) r → Reads (map string_bytes ws) r
+  first_help same h = with_first (codes "--help") same (after_help (map string_bytes rest) r h)
+
+  pub first_version : true ≡ bytes_eq text (codes "--version") → ReadsAlone Version (map string_bytes rest) r → Reads (map string_bytes ws) r
+  first_version same h = with_first (codes "--version") same (after_version (map string_bytes rest) r h)
+
+pub first_unknown : (ws rest : List (String Global)) (k : String Global) (a b d : Text) (word : Bor Text) → ws ≡ k ∷ rest → a ≡ string_bytes k → b ≡ string_bytes k → d ≡ string_bytes k → word.now ≡ string_bytes k → bytes_eq a (codes "eval") ≡ false → bytes_eq b (codes "--help") ≡ false → bytes_eq d (codes "--version") ≡ false → Reads (map string_bytes ws) (Err (Some word))
+first_unknown ws rest k a b d word e ka kb kd kw x y z =
+    let all : word.now ∷ map string_bytes rest ≡ map string_bytes ws = rw e (ap (λ w. w ∷ map string_bytes rest) kw) in
+    let not_eval : bytes_eq word.now (codes "eval") ≡ false = ap (λ t. bytes_eq t (codes "eval")) (kw ∙ sym ka) ∙ x in
+    let not_help : bytes_eq word.now (codes "--help") ≡ false = ap (λ t. bytes_eq t (codes "--help")) (kw ∙ sym kb) ∙ y in
+    let not_version : bytes_eq word.now (codes "--version") ≡ false = ap (λ t. bytes_eq t (codes "--version")) (kw ∙ sym kd) ∙ z in
+    subst (λ words. Reads words (Err (Some word))) all (unknown_first word (map string_bytes rest) not_eval not_help not_version)

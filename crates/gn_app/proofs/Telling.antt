@@ -1,10 +1,10 @@
 -- What names give, where a shelf tells.
-use Rattle.std.proofs.Common.{◌≡◌, ℕ, ◌<◌, ◌≤◌, true, false, List, [], ◌∷◌, length, Option, Some, None, refl, sym, subst, arith, IfSome}
+use Rattle.std.proofs.Common.{◌≡◌, ℕ, ◌<◌, ◌≤◌, true, false, List, [], ◌∷◌, length, Option, Some, None, Result, refl, sym, subst, arith, IfSome}
 use Rattle.std.specs.Prelude.{IsSomeAnd, bytes_eq, nat_le}
 use Rattle.gn_io.specs.Outside.{Files, Names, with_name}
 use Rattle.gn_io.specs.Files.{file_answer, file_within, is_among}
 use Rattle.gn_tree.specs.Tree.{Text}
-use Rattle.gn_app.specs.declared.status.Status.TheVariants.{Absent, NotBuilt}
+use Rattle.gn_app.specs.Ending.{Ending, no_file, overlong}
 use Rattle.gn_app.specs.Job.{Subject, content, read_as, refused, Giving}
 use Rattle.gn_app.specs.Outcome.{WhereTold}
 use Rattle.gn_app.specs.Load.{Gives, Holds, IsLong}
@@ -14,28 +14,28 @@ use Rattle.std.proofs.lemmas.List.{drop_all}
 use Rattle.std.proofs.Math.Seq.{drop-append_seam}
 
 -- a file that is held within the limit
-pub gives_whole : {A : Type 0} (holds : Option Files) (s : Subject) (reading : List ℕ → Option A) (missed : Names) (limit : ℕ) (name : Text) (bytes : List ℕ) → is_among name missed ≡ false → length bytes ≤ limit → Holds holds name bytes → Gives holds s reading missed limit name (read_as s (reading bytes))
+pub gives_whole : {A : Type 0} (holds : Option Files) (s : Subject) (reading : List ℕ → Result A Ending) (missed : Names) (limit : ℕ) (name : Text) (bytes : List ℕ) → is_among name missed ≡ false → length bytes ≤ limit → Holds holds name bytes → Gives holds s reading missed limit name (read_as s (reading bytes))
 gives_whole None s reading missed limit name bytes m h k = tt
 gives_whole (Some files) s reading missed limit name bytes m h k =
     let fits : nat_le (length bytes) limit ≡ true = grind (arith, nat_tests) in
     rw (m, k, fits) refl
 
-long_file : {A : Type 0} (s : Subject) (reading : List ℕ → Option A) (limit : ℕ) (file : Option (List ℕ)) → IsSomeAnd file (λ bytes. limit < length bytes) → content s reading (file_within limit file) ≡ refused NotBuilt s
-long_file s reading limit None k = absurd k
-long_file s reading limit (Some bytes) k =
+long_file : {A : Type 0} (s : Subject) (reading : List ℕ → Result A Ending) (limit size : ℕ) (name : Text) (file : Option (List ℕ)) → limit < size → IsSomeAnd file (λ bytes. length bytes ≡ size) → content s name reading (file_within limit file) ≡ refused (overlong name size) s
+long_file s reading limit size name None over k = absurd k
+long_file s reading limit size name (Some bytes) over k =
     let long : nat_le (length bytes) limit ≡ false = grind (arith, nat_tests) in
-    rw long refl
+    rw (long, k) refl
 
 -- a file that is longer
-pub gives_long : {A : Type 0} (holds : Option Files) (s : Subject) (reading : List ℕ → Option A) (limit : ℕ) (name : Text) → IsLong holds name limit → Gives holds s reading [] limit name (refused NotBuilt s)
-gives_long None s reading limit name k = tt
-gives_long (Some files) s reading limit name k = long_file s reading limit (files name) k
+pub gives_long : {A : Type 0} (holds : Option Files) (s : Subject) (reading : List ℕ → Result A Ending) (limit size : ℕ) (name : Text) → IsLong holds name limit size → Gives holds s reading [] limit name (refused (overlong name size) s)
+gives_long None s reading limit size name k = tt
+gives_long (Some files) s reading limit size name k = long_file s reading limit size name (files name) k.over k.held
 
 pub same_bytes : (name : Text) → bytes_eq name name ≡ true
 same_bytes name = (bytes_eq-Decides name name).1 refl
 
 -- a file that is missed
-pub gives_absent : {A : Type 0} (holds : Option Files) (s : Subject) (reading : List ℕ → Option A) (limit : ℕ) (name : Text) → Gives holds s reading (name ∷ []) limit name (refused Absent s)
+pub gives_absent : {A : Type 0} (holds : Option Files) (s : Subject) (reading : List ℕ → Result A Ending) (limit : ℕ) (name : Text) → Gives holds s reading (name ∷ []) limit name (refused (no_file name) s)
 gives_absent None s reading limit name = tt
 gives_absent (Some files) s reading limit name = rw (same_bytes name) refl
 

@@ -1,4 +1,5 @@
 pub mod Status
+pub mod Ending
 pub mod Command
 pub mod Job
 pub mod Outcome
@@ -6,4 +7,3 @@ pub mod Run
 pub mod Seen
 pub mod Steps
 pub mod Load
-pub mod Pages

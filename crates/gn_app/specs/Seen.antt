@@ -1,28 +1,36 @@
 -- What the program's own types stand for.
-use Rattle.std.specs.Prelude.{ℕ, List, map}
-use Rattle.gn_app.specs.declared.mesh.Mesh.{Mesh}
-use Rattle.gn_plain.specs.Geometry as plain
-use Rattle.gn_obj.specs.Lines.{FourWords}
-use Rattle.gn_obj.specs.Written.{face_line}
-use Rattle.gn_app.specs.declared.words.Words.{Words}
+use Rattle.std.specs.Prelude.{option_map}
+use Rattle.gn_io.specs.declared.sink.Put.{Put}
+use Rattle.gn_io.specs.declared.sink.Put.TheVariants.{All, Failed}
 use Rattle.gn_app.specs.declared.tree.MovingNode.{MovingNode}
 use Rattle.gn_json.specs.Tree.{Move}
-
-abbrev pub corner_of : ℕ → plain.Corner
-corner_of k = record { vertex = k }
-
-abbrev pub face_of : List ℕ → List plain.Corner
-face_of triangle = map corner_of triangle
-
-abbrev pub mesh_of : Mesh → plain.Mesh
-mesh_of m = record { points = m.points.items; faces = map face_of m.triangles.items }
-
-abbrev pub words_of : Words → FourWords
-words_of w = record { keyword = w.keyword.now; first = w.first.now; second = w.second.now; third = w.third.now }
+use Rattle.gn_app.specs.Command as commands
+use Rattle.gn_app.specs.Ending as endings
+use Rattle.gn_app.specs.declared.request.Request.{Request}
+use Rattle.gn_app.specs.declared.request.Request.TheVariants.{Eval, Help, Version}
+use Rattle.gn_app.specs.declared.ending.Ending.{Ending}
+use Rattle.gn_app.specs.declared.ending.Ending.TheVariants.{Done, Misused, NoFile, Unreadable, Unwritable, BadLine, Overlong, NotBuilt, NoMemory}
 
 abbrev pub move_of_node : MovingNode → Move
 move_of_node n = record { id = n.id.now; offset = n.offset }
 
--- the line of a triangle
-abbrev pub face_text : List ℕ → List ℕ
-face_text triangle = face_line (face_of triangle)
+abbrev pub command_of : Request → commands.Command
+command_of (Eval tree input) = commands.eval tree.now input.now
+command_of Help = commands.help
+command_of Version = commands.version
+
+abbrev pub ending_of : Ending → endings.Ending
+ending_of Done = endings.done
+ending_of (Misused word) = endings.misused (option_map (λ w. w.now) word)
+ending_of (NoFile name) = endings.no_file name.now
+ending_of (Unreadable name) = endings.unreadable name.now
+ending_of (Unwritable taken) = endings.unwritable taken
+ending_of (BadLine line rule) = endings.bad_line line rule
+ending_of (Overlong name length) = endings.overlong name.now length
+ending_of NotBuilt = endings.not_built
+ending_of NoMemory = endings.no_memory
+
+-- how a run ends whose output was put so
+abbrev pub put_ending : Put → endings.Ending
+put_ending All = endings.done
+put_ending (Failed taken) = endings.unwritable taken

@@ -1,61 +1,110 @@
 ghost use Rattle.std.specs.Prelude.{◌≡◌, ◌≤◌, ◌^◌, ◌*◌, map, string_bytes};
 ghost use Rattle.gn_io.specs.Outside.{Rose};
-ghost use Rattle.gn_shared.specs.Count.{with_run};
-ghost use Rattle.gn_app.specs.Command.{Command, eval, Spells, SpellsNone};
-ghost use Rattle.gn_app.specs.Load.{Evaluates};
-ghost use Rattle.gn_app.specs.Run.{Outside, IsRunOf, IsUntouched, outside, seen_by};
+ghost use Rattle.gn_app.specs.Command.{eval};
+ghost use Rattle.gn_app.specs.Job.{help_text, version_text};
+ghost use Rattle.gn_io.specs.Sink.{OnFailedPut};
+ghost use Rattle.gn_obj.specs.Pages.{TakesText};
+ghost use Rattle.gn_app.specs.Run.{IsRunOf, IsRunOfWords, IsCall, outside, seen_by, taken_by};
+ghost use Rattle.gn_app.specs.Seen.{command_of, ending_of};
 
+use crate::ending::Ending;
 use crate::files::prepare;
-use crate::load::Prepared;
-use crate::mesh::move_points;
+use crate::message::tell;
+use crate::moving::moved;
+use crate::request::{Request, read_request};
 use crate::status::Status;
-use crate::write::write_mesh;
-use gn_io::{Gate, Shelf, Sink};
+use gn_io::{Gate, Put, Shelf, Sink};
+use gn_obj::write_obj;
 use gn_shared::Meter;
 use std::alloc::Global;
 use std::sync::Wait;
 use std::thread::Threads;
 
-/// Moves the mesh, notes the run of the node and writes what it gave.
-fn evaluate<K: Sink, L>(prepared: Prepared, out: &mut K, meter: &mut Meter<L>) -> Status
+/// What `--help` writes: the commands.
+const HELP: &str =
+    "usage: geonodes eval TREE OBJ\n       geonodes --help\n       geonodes --version\n";
+
+/// What `--version` writes.
+const VERSION: &str = "geonodes 0.1.0\n";
+
+/// Runs `eval TREE OBJ`.
+fn run_eval<'a, H: Shelf, K: Sink, L>(
+    alloc: Global,
+    tree: &'a str,
+    input: &'a str,
+    shelf: &mut H,
+    out: &mut K,
+    meter: &mut Meter<L>,
+) -> Ending<'a>
     requires { meter.old.runs ≤ 2 ^ 62 }
-    ensures ended { Evaluates prepared (K.held out.old) (K.held out.new) (Rose (K.faults out.old) (K.faults out.new)) result }
-    ensures noted { meter.new ≡ with_run meter.old }
+    ensures { IsRunOf (eval tree.now input.now)
+        (outside (seen_by H.holds H.asked H.missed H.faults H.misses shelf.old) (taken_by K.held K.faults out.old) meter.old)
+        (outside (seen_by H.holds H.asked H.missed H.faults H.misses shelf.new) (taken_by K.held K.faults out.new) meter.new)
+        (ending_of result) }
 {
-    let Prepared { mut mesh, offset } = prepared;
-    move_points(&mut mesh.points, offset);
+    let prepared = match prepare(alloc, tree, input, shelf) {
+        Ok(prepared) => prepared,
+        Err(ending) => return ending,
+    };
+    let Ok(geometry) = moved(alloc, prepared) else {
+        return Ending::NoMemory;
+    };
     meter.note_run();
-    match write_mesh(out, &mesh) {
-        Ok(()) => Status::Done,
-        Err(_) => Status::WriteFault,
+    Ending::of_put(write_obj(&geometry, out))
+}
+
+/// Writes a text that is at hand. It takes no memory.
+fn write_text<K: Sink>(out: &mut K, text: &str) -> Put
+    ensures takes { TakesText text.now result (K.held out.old) (K.held out.new) }
+    ensures failed { OnFailedPut result (Rose (K.faults out.old) (K.faults out.new)) }
+{
+    out.put(text.as_bytes())
+}
+
+/// Runs a command.
+fn run_request<'a, H: Shelf, K: Sink, L>(
+    alloc: Global,
+    request: Request<'a>,
+    shelf: &mut H,
+    out: &mut K,
+    meter: &mut Meter<L>,
+) -> Ending<'a>
+    requires { meter.old.runs ≤ 2 ^ 62 }
+    ensures { IsRunOf (command_of request.entry)
+        (outside (seen_by H.holds H.asked H.missed H.faults H.misses shelf.old) (taken_by K.held K.faults out.old) meter.old)
+        (outside (seen_by H.holds H.asked H.missed H.faults H.misses shelf.new) (taken_by K.held K.faults out.new) meter.new)
+        (ending_of result) }
+{
+    match request {
+        Request::Eval { tree, input } => run_eval(alloc, tree, input, shelf, out, meter),
+        Request::Help => Ending::of_put(write_text(out, HELP)),
+        Request::Version => Ending::of_put(write_text(out, VERSION)),
     }
 }
 
-/// Runs `eval TREE OBJ`.
-fn run_eval<H: Shelf, K: Sink, E: Sink, L>(
+/// Runs the command that the words spell, if they spell one.
+fn run_words<'a, H: Shelf, K: Sink, L>(
     alloc: Global,
-    tree: &str,
-    input: &str,
+    words: &'a [String],
     shelf: &mut H,
     out: &mut K,
-    err: &mut E,
     meter: &mut Meter<L>,
-) -> Status
+) -> Ending<'a>
     requires { meter.old.runs ≤ 2 ^ 62 }
-    ensures { IsRunOf (eval tree.now input.now)
-        (outside (seen_by H.holds H.asked H.missed H.faults H.misses shelf.old) (K.held out.old) (K.faults out.old) (E.held err.old) meter.old)
-        (outside (seen_by H.holds H.asked H.missed H.faults H.misses shelf.new) (K.held out.new) (K.faults out.new) (E.held err.new) meter.new)
-        result }
+    ensures { IsRunOfWords (map string_bytes words.now)
+        (outside (seen_by H.holds H.asked H.missed H.faults H.misses shelf.old) (taken_by K.held K.faults out.old) meter.old)
+        (outside (seen_by H.holds H.asked H.missed H.faults H.misses shelf.new) (taken_by K.held K.faults out.new) meter.new)
+        (ending_of result) }
 {
-    let _ = err;
-    match prepare(alloc, tree, input, shelf) {
-        Ok(prepared) => evaluate(prepared, out, meter),
-        Err(status) => status,
+    match read_request(words) {
+        Ok(request) => run_request(alloc, request, shelf, out, meter),
+        Err(word) => Ending::Misused { word },
     }
 }
 
 /// Runs a command on this thread alone. A run with no fault writes the text of what the tree
 /// gives out for its input to `out`, asks `shelf` for each file once, and notes each node run.
+/// Unless it is `Done`, its end is told on `err` by one line.
 ///
 /// The words are those after the program's own name. No count of workers is taken, and the call
 /// waits for nobody.
@@ -75,24 +124,15 @@ where
     E: Sink,
     L: Send + Sync,
     requires { meter.old.runs ≤ 2 ^ 62 }
-    ensures command { (c : Command) → Spells (map string_bytes words.now) c → IsRunOf c
-        (outside (seen_by H.holds H.asked H.missed H.faults H.misses shelf.old) (K.held out.old) (K.faults out.old) (E.held err.old) meter.old)
-        (outside (seen_by H.holds H.asked H.missed H.faults H.misses shelf.new) (K.held out.new) (K.faults out.new) (E.held err.new) meter.new)
-        result }
-    ensures no_command { SpellsNone (map string_bytes words.now) → (result ≡ Status.NotBuilt) × IsUntouched
-        (outside (seen_by H.holds H.asked H.missed H.faults H.misses shelf.old) (K.held out.old) (K.faults out.old) (E.held err.old) meter.old)
-        (outside (seen_by H.holds H.asked H.missed H.faults H.misses shelf.new) (K.held out.new) (K.faults out.new) (E.held err.new) meter.new) }
+    ensures { IsCall (map string_bytes words.now)
+        (outside (seen_by H.holds H.asked H.missed H.faults H.misses shelf.old) (taken_by K.held K.faults out.old) meter.old)
+        (outside (seen_by H.holds H.asked H.missed H.faults H.misses shelf.new) (taken_by K.held K.faults out.new) meter.new)
+        (taken_by E.held E.faults err.old) (taken_by E.held E.faults err.new) result }
 {
     let _ = rt;
-    match words {
-        [keyword, tree, input] => {
-            if keyword.as_str() != "eval" {
-                return Status::NotBuilt;
-            }
-            run_eval(alloc, tree.as_str(), input.as_str(), shelf, out, err, meter)
-        }
-        _ => Status::NotBuilt,
-    }
+    let ending = run_words(alloc, words, shelf, out, meter);
+    tell(err, &ending);
+    ending.status()
 }
 
 /// Runs a command as `run_alone` does. It may take workers as soon as a command names some.
@@ -116,13 +156,10 @@ where
     G: Gate + Sync,
     L: Send + Sync,
     requires { meter.old.runs ≤ 2 ^ 62 }
-    ensures command { (c : Command) → Spells (map string_bytes words.now) c → IsRunOf c
-        (outside (seen_by H.holds H.asked H.missed H.faults H.misses shelf.old) (K.held out.old) (K.faults out.old) (E.held err.old) meter.old)
-        (outside (seen_by H.holds H.asked H.missed H.faults H.misses shelf.new) (K.held out.new) (K.faults out.new) (E.held err.new) meter.new)
-        result }
-    ensures no_command { SpellsNone (map string_bytes words.now) → (result ≡ Status.NotBuilt) × IsUntouched
-        (outside (seen_by H.holds H.asked H.missed H.faults H.misses shelf.old) (K.held out.old) (K.faults out.old) (E.held err.old) meter.old)
-        (outside (seen_by H.holds H.asked H.missed H.faults H.misses shelf.new) (K.held out.new) (K.faults out.new) (E.held err.new) meter.new) }
+    ensures { IsCall (map string_bytes words.now)
+        (outside (seen_by H.holds H.asked H.missed H.faults H.misses shelf.old) (taken_by K.held K.faults out.old) meter.old)
+        (outside (seen_by H.holds H.asked H.missed H.faults H.misses shelf.new) (taken_by K.held K.faults out.new) meter.new)
+        (taken_by E.held E.faults err.old) (taken_by E.held E.faults err.new) result }
 {
     let _ = gate;
     run_alone(rt, alloc, words, shelf, out, err, meter)

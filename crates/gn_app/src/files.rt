@@ -4,13 +4,13 @@ ghost use Rattle.gn_app.specs.Job.{tree_limit};
 ghost use Rattle.gn_app.specs.Load.{Goes, Loads, ReadsTree, ReadsInput, Prepares, OwnInput};
 ghost use Rattle.gn_app.specs.Run.{seen_by};
 
+use crate::ending::Ending;
 use crate::load::{LoadedTree, Prepared};
-use crate::mesh::Mesh;
-use crate::obj::read_mesh;
-use crate::status::Status;
 use crate::tree::read_tree;
+use gn_geom::Mesh;
 use gn_io::{Fetched, Shelf};
 use gn_memory::Memory;
+use gn_obj::{ObjFault, read_obj};
 use std::alloc::Global;
 
 const TREE_LIMIT: u64 = 4_194_304;
@@ -18,7 +18,12 @@ const TREE_LIMIT: u64 = 4_194_304;
 const INPUT_LIMIT: u64 = 134_217_728;
 
 /// The bytes of a file that is at most so long.
-fn load<H: Shelf>(alloc: Global, shelf: &mut H, name: &str, limit: u64) -> Result<Vec<u8>, Status>
+fn load<'a, H: Shelf>(
+    alloc: Global,
+    shelf: &mut H,
+    name: &'a str,
+    limit: u64,
+) -> Result<Vec<u8>, Ending<'a>>
     ensures loads { Loads (λ v. v.items) name.now limit
         (seen_by H.holds H.asked H.missed H.faults H.misses shelf.old)
         (seen_by H.holds H.asked H.missed H.faults H.misses shelf.new)
@@ -30,15 +35,19 @@ fn load<H: Shelf>(alloc: Global, shelf: &mut H, name: &str, limit: u64) -> Resul
     let mut bytes = Vec::new(alloc);
     match shelf.fetch(name, limit, &mut bytes) {
         Fetched::Whole => Ok(bytes),
-        Fetched::Absent => Err(Status::Absent),
-        Fetched::TooLong { .. } => Err(Status::NotBuilt),
-        Fetched::Failed => Err(Status::ReadFault),
-        Fetched::Memory => Err(Status::Memory),
+        Fetched::Absent => Err(Ending::NoFile { name }),
+        Fetched::TooLong { length } => Err(Ending::Overlong { name, length }),
+        Fetched::Failed => Err(Ending::Unreadable { name }),
+        Fetched::Memory => Err(Ending::NoMemory),
     }
 }
 
 /// A tree of the first form.
-fn load_tree<H: Shelf>(alloc: Global, shelf: &mut H, name: &str) -> Result<LoadedTree, Status>
+fn load_tree<'a, H: Shelf>(
+    alloc: Global,
+    shelf: &mut H,
+    name: &'a str,
+) -> Result<LoadedTree, Ending<'a>>
     ensures reads { ReadsTree name.now
         (seen_by H.holds H.asked H.missed H.faults H.misses shelf.old)
         (seen_by H.holds H.asked H.missed H.faults H.misses shelf.new)
@@ -50,13 +59,13 @@ fn load_tree<H: Shelf>(alloc: Global, shelf: &mut H, name: &str) -> Result<Loade
     let bytes = load(alloc, shelf, name, TREE_LIMIT)?;
     match read_tree(alloc, &bytes) {
         Ok(Some(offset)) => Ok(LoadedTree { bytes, offset }),
-        Ok(None) => Err(Status::NotBuilt),
-        Err(Memory) => Err(Status::Memory),
+        Ok(None) => Err(Ending::NotBuilt),
+        Err(Memory) => Err(Ending::NoMemory),
     }
 }
 
-/// An input of the first form.
-fn load_input<H: Shelf>(alloc: Global, shelf: &mut H, name: &str) -> Result<Mesh, Status>
+/// The mesh of an input.
+fn load_input<'a, H: Shelf>(alloc: Global, shelf: &mut H, name: &'a str) -> Result<Mesh, Ending<'a>>
     ensures reads { ReadsInput name.now
         (seen_by H.holds H.asked H.missed H.faults H.misses shelf.old)
         (seen_by H.holds H.asked H.missed H.faults H.misses shelf.new)
@@ -66,34 +75,34 @@ fn load_input<H: Shelf>(alloc: Global, shelf: &mut H, name: &str) -> Result<Mesh
         (seen_by H.holds H.asked H.missed H.faults H.misses shelf.new) }
 {
     let bytes = load(alloc, shelf, name, INPUT_LIMIT)?;
-    match read_mesh(alloc, &bytes) {
-        Ok(Some(mesh)) => Ok(mesh),
-        Ok(None) => Err(Status::NotBuilt),
-        Err(Memory) => Err(Status::Memory),
+    match read_obj(alloc, &bytes) {
+        Ok(mesh) => Ok(mesh),
+        Err(ObjFault::Bad { line, rule }) => Err(Ending::BadLine { line, rule }),
+        Err(ObjFault::Memory) => Err(Ending::NoMemory),
     }
 }
 
 /// The bytes of the tree, where they are the input too.
-fn own_input(alloc: Global, loaded: LoadedTree) -> Result<Prepared, Status>
+fn own_input<'a>(alloc: Global, loaded: LoadedTree) -> Result<Prepared, Ending<'a>>
     ensures { OwnInput loaded result }
 {
-    match read_mesh(alloc, &loaded.bytes) {
-        Ok(Some(mesh)) => Ok(Prepared {
+    match read_obj(alloc, &loaded.bytes) {
+        Ok(mesh) => Ok(Prepared {
             mesh,
             offset: loaded.offset,
         }),
-        Ok(None) => Err(Status::NotBuilt),
-        Err(Memory) => Err(Status::Memory),
+        Err(ObjFault::Bad { line, rule }) => Err(Ending::BadLine { line, rule }),
+        Err(ObjFault::Memory) => Err(Ending::NoMemory),
     }
 }
 
 /// Reads the files of the command: the tree, and then the input unless it is the same file.
-pub(crate) fn prepare<H: Shelf>(
+pub(crate) fn prepare<'a, H: Shelf>(
     alloc: Global,
-    tree: &str,
-    input: &str,
+    tree: &'a str,
+    input: &'a str,
     shelf: &mut H,
-) -> Result<Prepared, Status>
+) -> Result<Prepared, Ending<'a>>
     ensures prepares { Prepares (eval tree.now input.now)
         (seen_by H.holds H.asked H.missed H.faults H.misses shelf.old)
         (seen_by H.holds H.asked H.missed H.faults H.misses shelf.new)
@@ -104,14 +113,14 @@ pub(crate) fn prepare<H: Shelf>(
 {
     let loaded = match load_tree(alloc, shelf, tree) {
         Ok(loaded) => loaded,
-        Err(status) => return Err(status),
+        Err(ending) => return Err(ending),
     };
     if tree == input {
         return own_input(alloc, loaded);
     }
     let mesh = match load_input(alloc, shelf, input) {
         Ok(mesh) => mesh,
-        Err(status) => return Err(status),
+        Err(ending) => return Err(ending),
     };
     Ok(Prepared {
         mesh,

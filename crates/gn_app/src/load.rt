@@ -1,4 +1,4 @@
-use crate::mesh::Mesh;
+use gn_geom::Mesh;
 use gn_value::V3;
 
 /// The bytes of a tree, and what its node moves by.

@@ -5,13 +5,19 @@ ghost use Rattle.std.specs.Prelude.{◌≡◌};
 pub enum Status {
     /// The output was written whole.
     Done,
+    /// The words spell no command.
+    Usage,
     /// The tree or the input is no file.
     Absent,
     /// A file could not be read.
     ReadFault,
     /// The output could not be written whole.
     WriteFault,
-    /// The words, the tree or the input are none that the program takes yet.
+    /// The input is an OBJ text with a line that breaks a rule.
+    ObjText,
+    /// The tree or the input is longer than its limit.
+    TooLong,
+    /// The tree is none that the program takes yet.
     NotBuilt,
     /// There was no memory.
     Memory,
@@ -26,9 +32,12 @@ impl Status {
     {
         match self {
             Status::Done => 0,
+            Status::Usage => 2,
             Status::Absent => 3,
             Status::ReadFault => 4,
             Status::WriteFault => 5,
+            Status::ObjText => 8,
+            Status::TooLong => 9,
             Status::Memory => 10,
             Status::NotBuilt => 11,
         }

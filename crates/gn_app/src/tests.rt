@@ -18,6 +18,8 @@ const LIFTED: &str = "v 0 0 1\nv 1 0 1\nv 0 1 1\nf 1 2 3\n";
 /// What is written where the output takes all but the last byte.
 const ALL_BUT_ONE: &str = "v 0 0 1\nv 1 0 1\nv 0 1 1\nf 1 2 3";
 
+const NOT_BUILT: &str = "geonodes: not built\n";
+
 const EVAL: [&str; 3] = ["eval", "t.json", "in.obj"];
 
 const NAMES: [&str; 2] = ["t.json", "in.obj"];
@@ -27,6 +29,7 @@ const NAMES: [&str; 2] = ["t.json", "in.obj"];
 struct Outcome {
     status: Status,
     text: Vec<u8>,
+    said: Vec<u8>,
     asked: Vec<String>,
     runs: u64,
 }
@@ -63,8 +66,8 @@ fn names_asked(alloc: Global, shelf: &MemShelf) -> Result<Vec<String>, Fail> {
     Ok(names)
 }
 
-/// Runs words over files in memory. The fetch with that number fails, and so does the put with
-/// that number, which takes that many bytes.
+/// Runs words over files in memory. The fetch with that number fails, and so do the put to the
+/// output and the put to the sink of messages with those numbers, which take that many bytes.
 fn run_over<R: Abort + Threads + Sync>(
     rt: &R,
     alloc: Global,
@@ -73,6 +76,7 @@ fn run_over<R: Abort + Threads + Sync>(
     input: &str,
     fail: u64,
     stop: (u64, u64),
+    mute: (u64, u64),
 ) -> Result<Outcome, Fail> {
     let mut files = BTreeMap::new(alloc);
     add_file(alloc, &mut files, "t.json", tree)?;
@@ -80,28 +84,38 @@ fn run_over<R: Abort + Threads + Sync>(
     let words = words_of(alloc, words)?;
     let fail = [fail].to_vec(alloc)?;
     let stop = [stop].to_vec(alloc)?;
+    let mute = [mute].to_vec(alloc)?;
     let mut shelf = MemShelf::new(alloc, files, fail, Vec::new(alloc));
     let mut out = MemSink::new(alloc, stop, 4096)?;
-    let mut err = MemSink::new(alloc, Vec::new(alloc), 4096)?;
+    let mut err = MemSink::new(alloc, mute, 4096)?;
     let mut meter = Meter::new(());
     let status = run_alone(
         rt, alloc, &words, &mut shelf, &mut out, &mut err, &mut meter,
     );
     let (runs, copies) = meter.spend(());
     assert_eq!(rt; copies, 0);
-    assert_eq!(rt; err.held().len(), 0);
     Ok(Outcome {
         status,
         text: out.held().to_vec(alloc)?,
+        said: err.held().to_vec(alloc)?,
         asked: names_asked(alloc, &shelf)?,
         runs,
     })
 }
 
 /// Compares what came of a run, which asked for the first so many of the two files.
-fn compare(rt: &impl Abort, seen: &Outcome, status: Status, text: &str, asked: usize, runs: u64) {
+fn compare(
+    rt: &impl Abort,
+    seen: &Outcome,
+    status: Status,
+    text: &str,
+    said: &str,
+    asked: usize,
+    runs: u64,
+) {
     assert_eq!(rt; seen.status, status);
     assert_eq!(rt; seen.text.as_slice(), text.as_bytes());
+    assert_eq!(rt; seen.said.as_slice(), said.as_bytes());
     assert_eq!(rt; seen.runs, runs);
     assert_eq!(rt; seen.asked.len(), asked);
     for (name, wanted) in seen.asked.iter().zip(NAMES) {
@@ -109,106 +123,204 @@ fn compare(rt: &impl Abort, seen: &Outcome, status: Status, text: &str, asked: u
     }
 }
 
+const NONE: (u64, u64) = (0, 0);
+
 #[test]
-fn a_triangle_is_lifted_unless_a_file_or_the_output_fails(rt: HostRuntime) -> Result<(), Fail> {
-    let none = (0u64, 0u64);
+fn a_triangle_is_lifted_unless_a_file_is_refused(rt: HostRuntime) -> Result<(), Fail> {
     let cases = [
+        (LIFT, TRIANGLE, 0u64, Status::Done, LIFTED, "", 2usize),
         (
-            LIFT,
-            TRIANGLE,
-            0u64,
-            none,
-            Status::Done,
-            LIFTED,
-            2usize,
-            1u64,
-        ),
-        ("", TRIANGLE, 0, none, Status::Absent, "", 1, 0),
-        (LIFT, "", 0, none, Status::Absent, "", 2, 0),
-        (LIFT, TRIANGLE, 1, none, Status::ReadFault, "", 1, 0),
-        (LIFT, TRIANGLE, 2, none, Status::ReadFault, "", 2, 0),
-        (LIFT, TRIANGLE, 0, (1, 0), Status::WriteFault, "", 2, 1),
-        (LIFT, TRIANGLE, 0, (1, 1), Status::WriteFault, "v", 2, 1),
-        (
-            LIFT,
+            "",
             TRIANGLE,
             0,
-            (1, 31),
-            Status::WriteFault,
-            ALL_BUT_ONE,
-            2,
+            Status::Absent,
+            "",
+            "geonodes: absent: t.json\n",
             1,
         ),
+        (
+            LIFT,
+            "",
+            0,
+            Status::Absent,
+            "",
+            "geonodes: absent: in.obj\n",
+            2,
+        ),
+        (
+            LIFT,
+            TRIANGLE,
+            1,
+            Status::ReadFault,
+            "",
+            "geonodes: read fault: t.json\n",
+            1,
+        ),
+        (
+            LIFT,
+            TRIANGLE,
+            2,
+            Status::ReadFault,
+            "",
+            "geonodes: read fault: in.obj\n",
+            2,
+        ),
     ];
-    for (tree, input, fail, stop, status, text, asked, runs) in cases.iter() {
-        let seen = run_over(&rt, rt.alloc(), &EVAL, tree, input, *fail, *stop)?;
-        compare(&rt, &seen, *status, text, *asked, *runs);
+    for (tree, input, fail, status, text, said, asked) in cases.iter() {
+        let seen = run_over(&rt, rt.alloc(), &EVAL, tree, input, *fail, NONE, NONE)?;
+        let runs = u64::from(*status == Status::Done);
+        compare(&rt, &seen, *status, text, said, *asked, runs);
     }
     Ok(())
 }
 
 #[test]
-fn words_that_are_no_command_touch_nothing(rt: HostRuntime) -> Result<(), Fail> {
-    let cases: [&[&str]; 4] = [
-        &[],
-        &["eval", "t.json"],
-        &["check", "t.json", "in.obj"],
-        &["eval", "t.json", "in.obj", "--report"],
+fn a_fault_of_writing_tells_how_many_bytes_went_in(rt: HostRuntime) -> Result<(), Fail> {
+    let cases = [
+        (0u64, "", "geonodes: write fault after 0 bytes\n"),
+        (3, "v 0", "geonodes: write fault after 3 bytes\n"),
+        (31, ALL_BUT_ONE, "geonodes: write fault after 31 bytes\n"),
     ];
-    for words in cases.iter() {
-        let seen = run_over(&rt, rt.alloc(), words, LIFT, TRIANGLE, 0, (0, 0))?;
-        compare(&rt, &seen, Status::NotBuilt, "", 0, 0);
+    for (taken, text, said) in cases.iter() {
+        let stop = (1, *taken);
+        let seen = run_over(&rt, rt.alloc(), &EVAL, LIFT, TRIANGLE, 0, stop, NONE)?;
+        compare(&rt, &seen, Status::WriteFault, text, said, 2, 1);
+    }
+    Ok(())
+}
+
+#[test]
+fn words_that_are_no_command_touch_nothing_and_are_told(rt: HostRuntime) -> Result<(), Fail> {
+    let cases: [(&[&str], &str); 7] = [
+        (&[], "geonodes: usage: more words expected\n"),
+        (&["eval"], "geonodes: usage: more words expected\n"),
+        (
+            &["eval", "t.json"],
+            "geonodes: usage: more words expected\n",
+        ),
+        (&[""], "geonodes: usage: unexpected \n"),
+        (
+            &["check", "t.json", "in.obj"],
+            "geonodes: usage: unexpected check\n",
+        ),
+        (
+            &["eval", "t.json", "in.obj", "--report", "x"],
+            "geonodes: usage: unexpected --report\n",
+        ),
+        (&["--help", "eval"], "geonodes: usage: unexpected eval\n"),
+    ];
+    for (words, said) in cases.iter() {
+        let seen = run_over(&rt, rt.alloc(), words, LIFT, TRIANGLE, 0, NONE, NONE)?;
+        compare(&rt, &seen, Status::Usage, "", said, 0, 0);
+    }
+    Ok(())
+}
+
+#[test]
+fn help_and_version_need_no_file(rt: HostRuntime) -> Result<(), Fail> {
+    let cases = [
+        (
+            "--help",
+            "usage: geonodes eval TREE OBJ\n       geonodes --help\n       geonodes --version\n",
+        ),
+        ("--version", "geonodes 0.1.0\n"),
+    ];
+    for (word, text) in cases.iter() {
+        let seen = run_over(&rt, rt.alloc(), &[*word], "", "", 1, NONE, NONE)?;
+        compare(&rt, &seen, Status::Done, text, "", 0, 0);
+        let seen = run_over(&rt, rt.alloc(), &[*word], "", "", 1, (1, 4), NONE)?;
+        let said = "geonodes: write fault after 4 bytes\n";
+        compare(&rt, &seen, Status::WriteFault, &text[..4], said, 0, 0);
+    }
+    Ok(())
+}
+
+#[test]
+fn a_message_that_can_not_be_written_changes_no_status(rt: HostRuntime) -> Result<(), Fail> {
+    let cases = [
+        ((1u64, 5u64), "geono"),
+        ((2, 3), "geonodes: absent: t.j"),
+        ((3, 0), "geonodes: absent: t.json"),
+    ];
+    for (mute, said) in cases.iter() {
+        let seen = run_over(&rt, rt.alloc(), &EVAL, "", TRIANGLE, 0, NONE, *mute)?;
+        compare(&rt, &seen, Status::Absent, "", said, 1, 0);
     }
     Ok(())
 }
 
 #[test]
 fn a_tree_that_is_the_input_too_is_asked_for_once(rt: HostRuntime) -> Result<(), Fail> {
+    // the text of a tree is one line with a word that no OBJ text has, which is skipped
     let words = ["eval", "t.json", "t.json"];
-    let seen = run_over(&rt, rt.alloc(), &words, LIFT, TRIANGLE, 0, (0, 0))?;
-    compare(&rt, &seen, Status::NotBuilt, "", 1, 0);
+    let seen = run_over(&rt, rt.alloc(), &words, LIFT, TRIANGLE, 0, NONE, NONE)?;
+    compare(&rt, &seen, Status::Done, "", "", 1, 1);
+    Ok(())
+}
+
+/// A cube as a modelling program writes it.
+const CUBE: &str =
+    "# a sample cube\n# two comment lines\nmtllib cube.mtl\no Cube\nv 1.000000 1.000000 -1.000000\nv 1.000000 -1.000000 -1.000000\nv 1.000000 1.000000 1.000000\nv 1.000000 -1.000000 1.000000\nv -1.000000 1.000000 -1.000000\nv -1.000000 -1.000000 -1.000000\nv -1.000000 1.000000 1.000000\nv -1.000000 -1.000000 1.000000\nvn -0.0000 1.0000 -0.0000\nvt 0.625000 0.500000\ns 0\nusemtl Material\nf 1/1/1 5/1/1 7/1/1 3/1/1\nf 4/1/1 3/1/1 7/1/1 8/1/1\nf 8/1/1 7/1/1 5/1/1 6/1/1\nf 6/1/1 2/1/1 4/1/1 8/1/1\nf 2/1/1 1/1/1 3/1/1 4/1/1\nf 6/1/1 5/1/1 1/1/1 2/1/1\n";
+
+/// The same cube, moved up by one.
+const LIFTED_CUBE: &str =
+    "v 1 1 0\nv 1 -1 0\nv 1 1 2\nv 1 -1 2\nv -1 1 0\nv -1 -1 0\nv -1 1 2\nv -1 -1 2\nf 1 5 7 3\nf 4 3 7 8\nf 8 7 5 6\nf 6 2 4 8\nf 2 1 3 4\nf 6 5 1 2\n";
+
+#[test]
+fn inputs_are_obj_texts(rt: HostRuntime) -> Result<(), Fail> {
+    let cases = [
+        ("v -5 0 999999999\n", "v -5 0 1000000000\n"),
+        ("v 1e0 +0.5 .25 9 # more\r\nvn 0 0 1", "v 1 0.5 1.25\n"),
+        ("v 0 0 0\nv 1 0 0\nv 0 1 0\nf -3/1 -2/2 \\\n-1/3\n", LIFTED),
+        (
+            "v 0 0 0\nv 1 0 0\nv 0 1 0\nl 2 1\nf 1 1 2\n",
+            "v 0 0 1\nv 1 0 1\nv 0 1 1\nl 1 2\n",
+        ),
+        ("# nothing\n\n", ""),
+        (CUBE, LIFTED_CUBE),
+        (
+            "v 1e-05 -0.1 2.5000000001 1\n",
+            "v 0.0000100001 -0.1000000001 3.5\n",
+        ),
+    ];
+    for (input, text) in cases.iter() {
+        let seen = run_over(&rt, rt.alloc(), &EVAL, LIFT, input, 0, NONE, NONE)?;
+        compare(&rt, &seen, Status::Done, text, "", 2, 1);
+    }
     Ok(())
 }
 
 #[test]
-fn inputs_have_short_whole_numbers_and_triangles(rt: HostRuntime) -> Result<(), Fail> {
+fn the_first_bad_line_of_an_input_is_told(rt: HostRuntime) -> Result<(), Fail> {
     let cases = [
-        ("v -5 0 999999999\n", Status::Done, "v -5 0 1000000000\n"),
-        ("v -0 007 -1\n", Status::Done, "v 0 7 0\n"),
-        ("v 0 0 0\nf 1 2 3\n", Status::NotBuilt, ""),
         (
-            "v 0 0 0\nv 1 0 0\nv 0 1 0\nf 3 1 2\nf 1 2 3\n",
-            Status::Done,
-            "v 0 0 1\nv 1 0 1\nv 0 1 1\nf 3 1 2\nf 1 2 3\n",
+            "v 0 0 0\nv 1 0 0\nv 0 1 0\nf 1 2 0\n",
+            "geonodes: obj text: line 4: O3\n",
         ),
-        ("v 0 0 0\nv 1 0 0\nv 0 1 0\nf 1 2 0\n", Status::NotBuilt, ""),
-        ("v 0 0 0\nv 1 0 0\nv 0 1 0\nf 1 2 2\n", Status::NotBuilt, ""),
         (
-            "v 0 0 0\nv 1 0 0\nv 0 1 0\nf 01 2 3\n",
-            Status::NotBuilt,
-            "",
+            "v 0 0 0\nv 1 0 0\nv 0 1 0\nf 1 2 4\n",
+            "geonodes: obj text: line 4: O4\n",
         ),
-        ("v 0 0 0\nv 1 0 0\nv 0 1 0\nf 1 2\n", Status::NotBuilt, ""),
-        ("v 0 0 0", Status::NotBuilt, ""),
-        ("v 0  0 0\n", Status::NotBuilt, ""),
-        ("v 0 0 0 1\n", Status::NotBuilt, ""),
-        ("v 0 0 1234567890\n", Status::NotBuilt, ""),
-        ("v 0 0 0.5\n", Status::NotBuilt, ""),
-        ("v 0 0 +1\n", Status::NotBuilt, ""),
-        ("# a comment\n", Status::NotBuilt, ""),
-        ("\n", Status::NotBuilt, ""),
+        (
+            "v 0 0 0\nv 1 0 0\nv 0 1 0\nf 1 2\n",
+            "geonodes: obj text: line 4: O2\n",
+        ),
+        ("v 0 0\nf 1 2\n", "geonodes: obj text: line 1: O1\n"),
     ];
-    for (input, status, text) in cases.iter() {
-        let seen = run_over(&rt, rt.alloc(), &EVAL, LIFT, input, 0, (0, 0))?;
-        compare(
-            &rt,
-            &seen,
-            *status,
-            text,
-            2,
-            u64::from(*status == Status::Done),
-        );
+    for (input, said) in cases.iter() {
+        let seen = run_over(&rt, rt.alloc(), &EVAL, LIFT, input, 0, NONE, NONE)?;
+        compare(&rt, &seen, Status::ObjText, "", said, 2, 0);
     }
+    Ok(())
+}
+
+#[test]
+fn a_sum_past_the_range_stops_at_its_end(rt: HostRuntime) -> Result<(), Fail> {
+    let tree =
+        "{\"format\":1,\"nodes\":[{\"id\":\"up\",\"kind\":\"set_position\",\"in\":{\"geometry\":{\"from\":\"input\",\"socket\":\"geometry\"},\"offset\":[\"1\",\"0\",\"0\"]}}],\"output\":{\"from\":\"up\",\"socket\":\"geometry\"}}";
+    let text = "v 2147483647.9999999998 0 0\n";
+    let seen = run_over(&rt, rt.alloc(), &EVAL, tree, text, 0, NONE, NONE)?;
+    compare(&rt, &seen, Status::Done, text, "", 2, 1);
     Ok(())
 }
 
@@ -226,13 +338,13 @@ fn trees_have_one_node_that_moves(rt: HostRuntime) -> Result<(), Fail> {
         "{\"format\":1,\"nodes\":[{\"id\":\"up\",\"kind\":\"set_position\",\"in\":{\"geometry\":{\"from\":\"input\",\"socket\":\"geometry\"},\"offset\":[\"0\",\"0\",\"1\"]}}],\"output\":{\"from\":\"down\",\"socket\":\"geometry\"}}",
     ];
     for tree in bad.iter() {
-        let seen = run_over(&rt, rt.alloc(), &EVAL, tree, TRIANGLE, 0, (0, 0))?;
-        compare(&rt, &seen, Status::NotBuilt, "", 1, 0);
+        let seen = run_over(&rt, rt.alloc(), &EVAL, tree, TRIANGLE, 0, NONE, NONE)?;
+        compare(&rt, &seen, Status::NotBuilt, "", NOT_BUILT, 1, 0);
     }
     let good =
         "{ \"nodes\": [ {\"in\": {\"offset\": [\"0\", \"-0\", \"01\"], \"geometry\": {\"socket\": \"geometry\", \"from\": \"input\"}}, \"kind\": \"set_position\", \"id\": \"a_1\"} ], \"output\": {\"from\": \"a_1\", \"socket\": \"geometry\"}, \"format\": 1 }";
-    let seen = run_over(&rt, rt.alloc(), &EVAL, good, TRIANGLE, 0, (0, 0))?;
-    compare(&rt, &seen, Status::Done, LIFTED, 2, 1);
+    let seen = run_over(&rt, rt.alloc(), &EVAL, good, TRIANGLE, 0, NONE, NONE)?;
+    compare(&rt, &seen, Status::Done, LIFTED, "", 2, 1);
     Ok(())
 }
 
@@ -248,18 +360,62 @@ fn padded(alloc: Global, length: usize) -> Result<String, Fail> {
 #[test]
 fn a_tree_has_at_most_four_mebibytes(rt: HostRuntime) -> Result<(), Fail> {
     let whole = padded(rt.alloc(), 4_194_304)?;
-    let seen = run_over(&rt, rt.alloc(), &EVAL, whole.as_str(), TRIANGLE, 0, (0, 0))?;
-    compare(&rt, &seen, Status::Done, LIFTED, 2, 1);
+    let seen = run_over(
+        &rt,
+        rt.alloc(),
+        &EVAL,
+        whole.as_str(),
+        TRIANGLE,
+        0,
+        NONE,
+        NONE,
+    )?;
+    compare(&rt, &seen, Status::Done, LIFTED, "", 2, 1);
     let long = padded(rt.alloc(), 4_194_305)?;
-    let seen = run_over(&rt, rt.alloc(), &EVAL, long.as_str(), TRIANGLE, 0, (0, 0))?;
-    compare(&rt, &seen, Status::NotBuilt, "", 1, 0);
+    let seen = run_over(
+        &rt,
+        rt.alloc(),
+        &EVAL,
+        long.as_str(),
+        TRIANGLE,
+        0,
+        NONE,
+        NONE,
+    )?;
+    let said = "geonodes: too long: t.json: 4194305\n";
+    compare(&rt, &seen, Status::TooLong, "", said, 1, 0);
     Ok(())
 }
 
 #[test]
 fn an_input_has_at_most_128_mebibytes(rt: HostRuntime) -> Result<(), Fail> {
     let long = padded(rt.alloc(), 134_217_729)?;
-    let seen = run_over(&rt, rt.alloc(), &EVAL, LIFT, long.as_str(), 0, (0, 0))?;
-    compare(&rt, &seen, Status::NotBuilt, "", 2, 0);
+    let seen = run_over(&rt, rt.alloc(), &EVAL, LIFT, long.as_str(), 0, NONE, NONE)?;
+    let said = "geonodes: too long: in.obj: 134217729\n";
+    compare(&rt, &seen, Status::TooLong, "", said, 2, 0);
+    Ok(())
+}
+
+/// As many vertices as told, and a last line.
+fn many_vertices(alloc: Global, count: usize, last: &str) -> Result<String, Fail> {
+    let mut text = String::new(alloc);
+    for _ in 0..count {
+        text.push_str("v 0 0 0\n")?;
+    }
+    text.push_str(last)?;
+    Ok(text)
+}
+
+#[test]
+fn a_mesh_has_at_most_8388608_vertices(rt: HostRuntime) -> Result<(), Fail> {
+    let cases = [
+        ("f 1 2\n", "geonodes: obj text: line 8388609: O2\n"),
+        ("v 0 0 0\n", "geonodes: obj text: line 8388609: O5\n"),
+    ];
+    for (last, said) in cases.iter() {
+        let input = many_vertices(rt.alloc(), 8_388_608, last)?;
+        let seen = run_over(&rt, rt.alloc(), &EVAL, LIFT, input.as_str(), 0, NONE, NONE)?;
+        compare(&rt, &seen, Status::ObjText, "", said, 2, 0);
+    }
     Ok(())
 }

@@ -6,7 +6,7 @@ ghost use Rattle.gn_json.specs.Tree as spec;
 ghost use Rattle.gn_app.specs.Seen.{move_of_node};
 ghost use Rattle.gn_json.specs.Tree.{Move};
 
-use crate::obj::vector_of;
+use crate::offset::vector_of;
 use gn_memory::Memory;
 use gn_value::V3;
 use serde_json::Value;

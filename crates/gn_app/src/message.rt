@@ -1,0 +1,78 @@
+ghost use Rattle.std.specs.Prelude.{◌≡◌, ◌≤◌, ◌++◌, flat_map};
+ghost use Rattle.gn_io.specs.Outside.{Rose};
+ghost use Rattle.gn_app.specs.Ending.{bad_line, said_of};
+ghost use Rattle.gn_app.specs.Outcome.{Says};
+ghost use Rattle.gn_app.specs.Run.{Tells, taken_by};
+ghost use Rattle.gn_app.specs.Seen.{ending_of};
+
+use crate::ending::Ending;
+use gn_io::{Put, Sink};
+use itoa::Buffer;
+
+/// Puts the pieces one behind the other, as far as none fails. It takes no memory.
+fn put_pieces<E: Sink>(err: &mut E, pieces: &[&str])
+    ensures { Says (flat_map (λ p. p.now) pieces.now) (E.held err.old) (E.held err.new) (Rose (E.faults err.old) (E.faults err.new)) }
+{
+    for piece in pieces {
+        match err.put(piece.as_bytes()) {
+            Put::All => {}
+            Put::Failed { .. } => return,
+        }
+    }
+}
+
+/// Writes the line that tells which line of an input is bad, and by which rule.
+fn tell_bad_line<E: Sink>(err: &mut E, line: u64, rule: u8)
+    ensures { Tells (said_of (bad_line line rule)) (taken_by E.held E.faults err.old) (taken_by E.held E.faults err.new) }
+{
+    let mut line_buffer = Buffer::new();
+    let mut rule_buffer = Buffer::new();
+    let line = line_buffer.format(line);
+    let rule = rule_buffer.format(rule);
+    put_pieces(err, &["geonodes: obj text: line ", line, ": O", rule, "\n"])
+}
+
+/// Writes the line of an end, and nothing where the run is done. It takes no memory.
+pub(crate) fn tell<E: Sink>(err: &mut E, ending: &Ending<'_>)
+    ensures { Tells (said_of (ending_of ending.now)) (taken_by E.held E.faults err.old) (taken_by E.held E.faults err.new) }
+{
+    match ending {
+        Ending::Done => {}
+        Ending::Misused { word: Some(word) } => {
+            put_pieces(err, &["geonodes: usage: unexpected ", word, "\n"])
+        }
+        Ending::Misused { word: None } => put_pieces(
+            err,
+            &["geonodes: usage: more words expected\n"],
+        ),
+        Ending::NoFile { name } => put_pieces(err, &["geonodes: absent: ", name, "\n"]),
+        Ending::Unreadable { name } => put_pieces(err, &["geonodes: read fault: ", name, "\n"]),
+        Ending::Unwritable { taken } => {
+            let mut buffer = Buffer::new();
+            put_pieces(
+                err,
+                &[
+                    "geonodes: write fault after ",
+                    buffer.format(*taken),
+                    " bytes\n",
+                ],
+            )
+        }
+        Ending::BadLine { line, rule } => tell_bad_line(err, *line, *rule),
+        Ending::Overlong { name, length } => {
+            let mut buffer = Buffer::new();
+            put_pieces(
+                err,
+                &[
+                    "geonodes: too long: ",
+                    name,
+                    ": ",
+                    buffer.format(*length),
+                    "\n",
+                ],
+            )
+        }
+        Ending::NotBuilt => put_pieces(err, &["geonodes: not built\n"]),
+        Ending::NoMemory => put_pieces(err, &["geonodes: out of memory\n"]),
+    }
+}
