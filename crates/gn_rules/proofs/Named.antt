@@ -1,0 +1,134 @@
+-- The rule and the place that are named are the least broken rule and the first place where it is.
+use Rattle.std.proofs.Common.{◌≡◌, ℕ, suc, ◌<◌, ◌==◌, [], ◌∷◌, Option, Some, None, IsTrue, ◌⊎◌, inl, inr, refl, sym, ap, ◌∙◌, subst, arith, if◌then◌else◌}
+use Rattle.gn_places.specs.Place.{Place, IsFirst, IsBadAt, Holds, part_at}
+use Rattle.gn_places.proofs.First.{first_same}
+use Rattle.gn_tree.specs.Trees.{Tree}
+use Rattle.gn_tree.specs.Rising.{NamesRiseInTree}
+use Rattle.gn_cycle.proofs.Ways.{tells_cycle}
+use Rattle.gn_rules.specs.declared.rule.Rule.{Rule}
+use Rattle.gn_rules.specs.declared.rule.Rule.TheVariants as rule
+use Rattle.gn_rules.specs.Number.{number_of}
+use Rattle.gn_rules.specs.Things.{Thing, the_tree, a_group, all_nodes, a_node, an_input, parts}
+use Rattle.gn_rules.specs.Rules.{graph_of, breaks_names, breaks_links, breaks_kinds, breaks_height, breaks_count, Breaks, BreaksOrder, IsBrokenAt, Keeps}
+use Rattle.gn_rules.specs.Walk.{breaks, first_of_rule, named_or, named, Tells}
+use Rattle.gn_rules.proofs.Exact.{tree_first}
+
+-- ---- a thing breaks a rule exactly where the test says so
+
+names_same : (x : Thing) → breaks_names x ≡ breaks rule.Names x
+names_same (a_group gs i g) = refl
+names_same _ = refl
+
+links_same : (x : Thing) → breaks_links x ≡ breaks rule.Links x
+links_same (an_input s shape x) = refl
+links_same _ = refl
+
+kinds_same : (x : Thing) → breaks_kinds x ≡ breaks rule.Kinds x
+kinds_same (an_input s shape x) = refl
+kinds_same _ = refl
+
+height_same : (x : Thing) → breaks_height x ≡ breaks rule.Height x
+height_same (a_node s i n) = refl
+height_same _ = refl
+
+count_same : (x : Thing) → breaks_count x ≡ breaks rule.Count x
+count_same (all_nodes t) = refl
+count_same _ = refl
+
+order_to : (x : Thing) → BreaksOrder x → IsTrue (breaks rule.Order x)
+order_to (a_node s i n) b = (tells_cycle (graph_of s.nodes) i).1 b
+order_to _ b = absurd b
+
+order_from : (x : Thing) → IsTrue (breaks rule.Order x) → BreaksOrder x
+order_from (a_node s i n) b = (tells_cycle (graph_of s.nodes) i).0 b
+order_from _ b = absurd (cc)
+
+breaks_to : (r : Rule) (x : Thing) → Breaks r x → IsTrue (breaks r x)
+breaks_to rule.Names x b = sym (names_same x) ∙ b
+breaks_to rule.Links x b = sym (links_same x) ∙ b
+breaks_to rule.Kinds x b = sym (kinds_same x) ∙ b
+breaks_to rule.Order x b = order_to x b
+breaks_to rule.Height x b = sym (height_same x) ∙ b
+breaks_to rule.Count x b = sym (count_same x) ∙ b
+
+breaks_from : (r : Rule) (x : Thing) → IsTrue (breaks r x) → Breaks r x
+breaks_from rule.Names x b = names_same x ∙ b
+breaks_from rule.Links x b = links_same x ∙ b
+breaks_from rule.Kinds x b = kinds_same x ∙ b
+breaks_from rule.Order x b = order_from x b
+breaks_from rule.Height x b = height_same x ∙ b
+breaks_from rule.Count x b = count_same x ∙ b
+
+module _ (P Q : Thing → Type 0) (to : (x : Thing) → P x → Q x) where
+  part_to : (o : Option Thing) (p : Place) → Holds (λ y. IsBadAt parts P y p) o → Holds (λ y. IsBadAt parts Q y p) o
+  part_to None p b = b
+  part_to (Some y) [] b = to y b
+  part_to (Some y) (s ∷ p) b = part_to (part_at s (parts y)) p b
+
+  pub bad_to : (x : Thing) (p : Place) → IsBadAt parts P x p → IsBadAt parts Q x p
+  bad_to x [] b = to x b
+  bad_to x (s ∷ p) b = part_to (part_at s (parts x)) p b
+
+pub rule_first : (t : Tree) (r : Rule) → NamesRiseInTree t → IsFirst (IsBrokenAt t r) (first_of_rule t r)
+rule_first t r h =
+    first_same (IsBrokenAt t r) (IsBadAt parts (λ x. IsTrue (breaks r x)) (the_tree t)) (bad_to (Breaks r) (λ x. IsTrue (breaks r x)) (breaks_to r) (the_tree t))
+    (bad_to (λ x. IsTrue (breaks r x)) (Breaks r) (breaks_from r) (the_tree t)) (first_of_rule t r) (tree_first (breaks r) t h)
+
+-- ---- the rules in turn
+
+rule_of : ℕ → Rule
+rule_of n = if n == 2 then rule.Names else (if n == 3 then rule.Links else (if n == 4 then rule.Kinds else (if n == 5 then rule.Order else (if n == 6 then rule.Height else rule.Count))))
+
+rule_back : (r : Rule) → rule_of (number_of r) ≡ r
+unfolding rule_of
+rule_back rule.Names = refl
+rule_back rule.Links = refl
+rule_back rule.Kinds = refl
+rule_back rule.Order = refl
+rule_back rule.Height = refl
+rule_back rule.Count = refl
+
+same_rule : (q r : Rule) → number_of q ≡ number_of r → q ≡ r
+same_rule q r e = sym (rule_back q) ∙ (ap rule_of e ∙ rule_back r)
+
+abbrev KeepsBelow : Tree → ℕ → Type 0
+KeepsBelow t n = (q : Rule) → number_of q < n → Keeps t q
+
+below_or_same : (m n : ℕ) → m < suc n → (m < n) ⊎ (m ≡ n)
+below_or_same m n h = grind arith
+
+from_two : (q : Rule) → number_of q < 2 → ⊥
+from_two rule.Names h = absurd (omega arith)
+from_two rule.Links h = absurd (omega arith)
+from_two rule.Kinds h = absurd (omega arith)
+from_two rule.Order h = absurd (omega arith)
+from_two rule.Height h = absurd (omega arith)
+from_two rule.Count h = absurd (omega arith)
+
+below_eight : (q : Rule) → number_of q < 8
+below_eight rule.Names = omega arith
+below_eight rule.Links = omega arith
+below_eight rule.Kinds = omega arith
+below_eight rule.Order = omega arith
+below_eight rule.Height = omega arith
+below_eight rule.Count = omega arith
+
+keeps_next : (t : Tree) (r : Rule) → KeepsBelow t (number_of r) → Keeps t r → KeepsBelow t (suc (number_of r))
+keeps_next t r b k q h = elim (below_or_same (number_of q) (number_of r) h) as (λ _. Keeps t q) [
+  | inl lower ↦ b q lower
+  | inr e ↦ subst (λ x. Keeps t x) (sym (same_rule q r e)) k
+]
+
+tell : (t : Tree) (r : Rule) (found : Option Place) (later : Option (Rule × Place)) → KeepsBelow t (number_of r) → IsFirst (IsBrokenAt t r) found
+    → (KeepsBelow t (suc (number_of r)) → Tells t later) → Tells t (named_or r found later)
+tell t r None later b f go = go (keeps_next t r b f)
+tell t r (Some place) later b f go = record { least = b; first = f }
+
+pub named_tells : (t : Tree) → NamesRiseInTree t → Tells t (named t)
+named_tells t h =
+    tell t rule.Names (first_of_rule t rule.Names) _ (λ q l. absurd (from_two q l)) (rule_first t rule.Names h) (λ b.
+    tell t rule.Links (first_of_rule t rule.Links) _ b (rule_first t rule.Links h) (λ b.
+    tell t rule.Kinds (first_of_rule t rule.Kinds) _ b (rule_first t rule.Kinds h) (λ b.
+    tell t rule.Order (first_of_rule t rule.Order) _ b (rule_first t rule.Order h) (λ b.
+    tell t rule.Height (first_of_rule t rule.Height) _ b (rule_first t rule.Height h) (λ b.
+    tell t rule.Count (first_of_rule t rule.Count) _ b (rule_first t rule.Count h) (λ b. λ q. b q (below_eight q)))))))

@@ -1,0 +1,7 @@
+pub mod Number
+pub mod Sockets
+pub mod Scopes
+pub mod Things
+pub mod Measures
+pub mod Rules
+pub mod Walk

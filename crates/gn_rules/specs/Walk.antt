@@ -1,0 +1,167 @@
+-- The first place where a rule is broken, as it is found by going through the tree once.
+use Rattle.std.specs.Prelude.{ℕ, suc, Bool, false, not, ◌||◌, nat_lt, is_none, List, [], ◌∷◌, map, codes, Option, Some, None, if◌then◌else◌}
+use Rattle.std.specs.Option.{option_map_or}
+use Rattle.gn_kinds.specs.declared.row.SocketKind.TheVariants.{Geometry}
+use Rattle.gn_kinds.specs.Row.{Text}
+use Rattle.gn_places.specs.Place.{index, key, Place, joined}
+use Rattle.gn_tree.specs.Trees.{Socket, Link, Input, constant, link, links, Named, Node, node, Settings, no_settings, and_setting, and_zone, Nodes, no_nodes, and_node, Group, Tree, of_group}
+use Rattle.gn_cycle.specs.Ways.{is_on_cycle}
+use Rattle.gn_rules.specs.declared.rule.Rule.{Rule}
+use Rattle.gn_rules.specs.declared.rule.Rule.TheVariants as rule
+use Rattle.gn_rules.specs.declared.shape.Shape.{Shape}
+use Rattle.gn_rules.specs.Sockets.{Declared, single, one_of, declared, group_names, ids, id_of, inputs_of}
+use Rattle.gn_rules.specs.Scopes.{Scope, source, is_above, tree_scope, group_scope, zone_scope}
+use Rattle.gn_rules.specs.Things.{Thing, the_tree, the_groups, a_group, the_sockets, a_socket, all_nodes, the_nodes, a_node, the_settings, a_group_name, the_inputs, an_input, a_link, socket_names}
+use Rattle.gn_rules.specs.Rules.{is_taken, is_loose, is_unfit, graph_of, is_too_high, node_count, IsNamed, KeepsRules}
+
+-- ---- does a thing break the rule by itself? By the thing first, as they are met
+
+abbrev pub breaks_name : Rule → List Text → ℕ → Text → Bool
+breaks_name rule.Names names i name = is_taken names i name
+breaks_name _ names i name = false
+
+abbrev pub breaks_node : Rule → Scope → ℕ → Node → Bool
+breaks_node rule.Names s i n = is_taken (ids s.nodes) i (id_of n)
+breaks_node rule.Order s i n = is_on_cycle (graph_of s.nodes) i
+breaks_node rule.Height s i n = is_too_high s n
+breaks_node _ s i n = false
+
+abbrev pub breaks_group_name : Rule → Scope → Text → Bool
+breaks_group_name rule.Links s name = not (is_above s name)
+breaks_group_name _ s name = false
+
+abbrev pub breaks_input : Rule → Scope → Option Shape → Input → Bool
+breaks_input rule.Links s shape x = is_none shape || is_loose s x
+breaks_input rule.Kinds s shape x = option_map_or (λ there. is_unfit s there x) shape false
+breaks_input _ s shape x = false
+
+abbrev pub breaks_link : Rule → Scope → Link → Bool
+breaks_link rule.Links s l = is_none (source s l)
+breaks_link _ s l = false
+
+abbrev pub breaks_all : Rule → Tree → Bool
+breaks_all rule.Count t = nat_lt 16384 (node_count t)
+breaks_all _ t = false
+
+abbrev pub breaks : Rule → Thing → Bool
+breaks r (a_group gs i g) = breaks_name r (group_names gs) i g.name
+breaks r (a_socket names i name) = breaks_name r names i name
+breaks r (a_node s i n) = breaks_node r s i n
+breaks r (a_group_name s name) = breaks_group_name r s name
+breaks r (an_input s shape x) = breaks_input r s shape x
+breaks r (a_link s l) = breaks_link r s l
+breaks r (all_nodes t) = breaks_all r t
+breaks r _ = false
+
+-- ---- the way through the tree
+
+module _ (bad : Thing → Bool) where
+  -- this thing, or else what is found in it
+  abbrev pub this_or : Thing → Option Place → Option Place
+  this_or x found = if bad x then Some [] else found
+
+  abbrev pub first_link : Scope → ℕ → List Link → Option Place
+  first_link s i [] = None
+  first_link s i (l ∷ ls) = joined (index i) (this_or (a_link s l) None) (first_link s (suc i) ls)
+
+  abbrev pub in_links : Scope → Input → Option Place
+  in_links s (constant v) = None
+  in_links s (link l) = None
+  in_links s (links ls) = first_link s 0 ls
+
+  abbrev pub in_input : Scope → Option Shape → Input → Option Place
+  in_input s shape x = this_or (an_input s shape x) (in_links s x)
+
+  abbrev pub first_input : Scope → List Declared → List Named → Option Place
+  first_input s ds [] = None
+  first_input s ds (x ∷ xs) = joined (key x.name) (in_input s (declared ds x.name) x.input) (first_input s ds xs)
+
+  abbrev pub in_inputs : Scope → List Declared → List Named → Option Place
+  in_inputs s ds xs = this_or (the_inputs s ds xs) (first_input s ds xs)
+
+  abbrev pub in_given_out : Scope → List Socket → List Named → Option Place
+  in_given_out s sockets output = in_inputs s (map one_of sockets) output
+
+  abbrev pub first_socket : List Text → ℕ → List Socket → Option Place
+  first_socket names i [] = None
+  first_socket names i (x ∷ xs) = joined (index i) (this_or (a_socket names i x.name) None) (first_socket names (suc i) xs)
+
+  abbrev pub in_sockets : List Socket → Option Place
+  in_sockets xs = this_or (the_sockets xs) (first_socket (socket_names xs) 0 xs)
+
+  abbrev pub in_group_name : Scope → Text → Option Place
+  in_group_name s name = joined (key (codes "group")) (this_or (a_group_name s name) None) None
+
+  abbrev mutual
+    pub in_node : Scope → ℕ → Node → Option Place
+    in_node s i (node id kind settings inputs) =
+        this_or (a_node s i (node id kind settings inputs))
+        (joined (key (codes "in")) (in_inputs s (inputs_of s.groups (node id kind settings inputs)) inputs)
+        (joined (key (codes "set")) (this_or (the_settings s settings) (in_settings s settings)) None))
+
+    pub in_settings : Scope → Settings → Option Place
+    in_settings s no_settings = None
+    in_settings s (and_setting (of_group name) rest) = in_group_name s name
+    in_settings s (and_setting x rest) = in_settings s rest
+    in_settings s (and_zone items nodes output rest) =
+        joined (key (codes "items")) (in_sockets items)
+        (joined (key (codes "nodes")) (this_or (the_nodes (zone_scope s items nodes)) (first_node (zone_scope s items nodes) 0 nodes))
+        (joined (key (codes "output")) (in_given_out (zone_scope s items nodes) items output) None))
+
+    pub first_node : Scope → ℕ → Nodes → Option Place
+    first_node s i no_nodes = None
+    first_node s i (and_node n ns) = joined (index i) (in_node s i n) (first_node s (suc i) ns)
+
+  abbrev pub in_nodes : Scope → Option Place
+  in_nodes s = this_or (the_nodes s) (first_node s 0 s.nodes)
+
+  abbrev pub in_group : List Group → ℕ → Group → Option Place
+  in_group gs i g =
+      this_or (a_group gs i g)
+      (joined (key (codes "inputs")) (in_sockets g.inputs)
+      (joined (key (codes "nodes")) (in_nodes (group_scope gs i g))
+      (joined (key (codes "output")) (in_given_out (group_scope gs i g) g.outputs g.output)
+      (joined (key (codes "outputs")) (in_sockets g.outputs) None))))
+
+  abbrev pub first_group : List Group → ℕ → List Group → Option Place
+  first_group all i [] = None
+  first_group all i (g ∷ gs) = joined (index i) (in_group all i g) (first_group all (suc i) gs)
+
+  abbrev pub in_groups : List Group → Option Place
+  in_groups gs = this_or (the_groups gs) (first_group gs 0 gs)
+
+  abbrev pub in_output : Scope → Option Input → Option Place
+  in_output s None = None
+  in_output s (Some x) = joined (key (codes "output")) (in_input s (Some (single Geometry)) x) None
+
+  abbrev pub in_tree : Tree → Option Place
+  in_tree t =
+      this_or (the_tree t)
+      (joined (key (codes "groups")) (in_groups t.groups)
+      (joined (key (codes "nodes")) (this_or (all_nodes t) (first_node (tree_scope t) 0 t.nodes))
+      (in_output (tree_scope t) t.output)))
+
+abbrev pub first_of_rule : Tree → Rule → Option Place
+first_of_rule t r = in_tree (breaks r) t
+
+-- a rule with its place, or else what comes later
+abbrev pub named_or : Rule → Option Place → Option (Rule × Place) → Option (Rule × Place)
+named_or r None later = later
+named_or r (Some place) later = Some (r, place)
+
+abbrev pub named_from : Tree → List Rule → Option (Rule × Place)
+named_from t [] = None
+named_from t (r ∷ rs) = named_or r (first_of_rule t r) (named_from t rs)
+
+-- the rules, from the least
+abbrev pub all_rules : List Rule
+all_rules = rule.Names ∷ rule.Links ∷ rule.Kinds ∷ rule.Order ∷ rule.Height ∷ rule.Count ∷ []
+
+abbrev pub named : Tree → Option (Rule × Place)
+named t = named_from t all_rules
+
+-- the named rule and place are the least broken rule and its first place, and none is named only
+-- where all rules are kept
+abbrev pub Tells : Tree → Option (Rule × Place) → Type 0
+Tells t None = KeepsRules t
+Tells t (Some (r, place)) = IsNamed t r place
