@@ -1,0 +1,9 @@
+pub mod Looking
+pub mod Finding
+pub mod Capping
+pub mod Within
+pub mod Grouping
+pub mod Leading
+pub mod Alike
+pub mod Walking
+pub mod Naming

@@ -1,0 +1,25 @@
+-- Rule by rule to the one that is named.
+use Rattle.std.proofs.Common.{◌≡◌, ℕ, ◌+◌, ◌<◌, List, length, get_or, drop, Option, Result, Ok, Err, IfOk, option_map, sym, ap, ◌∙◌, subst}
+use Rattle.std.specs.declared.alloc.Global.{Global}
+use Rattle.std.specs.declared.collections.VecDeque.{VecDeque}
+use Rattle.std.proofs.lemmas.List.{drop_more}
+use Rattle.gn_memory.specs.declared.Memory.{Memory}
+use Rattle.gn_places.specs.Place.{Place}
+use Rattle.gn_places.specs.Seen.{place_of}
+use Rattle.gn_places.specs.declared.step.Step.{Step}
+use Rattle.gn_tree.specs.Trees.{Tree}
+use Rattle.gn_tree.specs.Rising.{NamesRiseInTree}
+use Rattle.gn_rules.specs.declared.rule.Rule.{Rule}
+use Rattle.gn_rules.specs.Walk.{first_of_rule, named_or, named_from, named, Tells}
+use Rattle.gn_rules.proofs.Named.{named_tells}
+
+pub rule_found : (t : Tree) (rules : List Rule) (i : ℕ) (d : Rule) (place : Option Place) → i < length rules → place ≡ first_of_rule t (get_or rules i d)
+    → named_from t (drop i rules) ≡ named_or (get_or rules i d) place (named_from t (drop (i + 1) rules))
+rule_found t rules i d place h e = ap (named_from t) (drop_more rules i d h) ∙ ap (λ p. named_or (get_or rules i d) p (named_from t (drop (i + 1) rules))) (sym e)
+
+abbrev pub named_in : Option (Rule × VecDeque Step Global) → Option (Rule × Place)
+named_in found = option_map (λ x. (x.0, place_of x.1)) found
+
+pub tells : (t : Tree) (r : Result (Option (Rule × VecDeque Step Global)) Memory) → NamesRiseInTree t → IfOk r (λ found. named_in found ≡ named t) → IfOk r (λ found. Tells t (named_in found))
+tells t (Ok found) h e = subst (Tells t) (sym e) (named_tells t h)
+tells t (Err m) h e = tt

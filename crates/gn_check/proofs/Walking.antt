@@ -1,0 +1,156 @@
+-- The way through nodes and zones, step by step.
+use Rattle.std.proofs.Common.{◌≡◌, ℕ, suc, ◌+◌, ◌<◌, Bool, true, false, List, [], map, codes, length, get_or, drop, Option, Some, None, Result, Ok, Err, IfOk, option_map, refl, sym, ap, ◌∙◌, arith}
+use Rattle.std.specs.Prelude.{is_some}
+use Rattle.std.specs.Option.{option_map_or}
+use Rattle.std.specs.declared.alloc.Global.{Global}
+use Rattle.std.specs.declared.collections.VecDeque.{VecDeque}
+use Rattle.std.proofs.lemmas.List.{drop_more}
+use Rattle.gn_memory.specs.declared.Memory.{Memory}
+use Rattle.gn_places.specs.Place.{Step, index, key, Place, joined}
+use Rattle.gn_places.specs.Seen.{place_of}
+use Rattle.gn_places.specs.declared.step.Step.{Step as CodeStep}
+use Rattle.gn_tree.specs.Trees.{Tree, Input, Group, Socket, Named, Nodes, Node, node, node_size, Settings, settings_size, nodes_size, no_settings}
+use Rattle.gn_tree.specs.Seen.{socket_of, group_of, named_of, nodes_of, setting_then, settings_of}
+use Rattle.gn_tree.specs.declared.tree.Setting.{Setting}
+use Rattle.gn_tree.specs.declared.tree.Setting.TheVariants as s
+use Rattle.gn_tree.specs.declared.tree.Zone.{Zone}
+use Rattle.gn_tree.specs.declared.tree.Group.{Group as CodeGroup}
+use Rattle.gn_rules.specs.declared.rule.Rule.{Rule}
+use Rattle.gn_rules.specs.Scopes.{Scope, tree_entries, tree_scope, zone_scope, group_scope}
+use Rattle.gn_rules.specs.declared.shape.Shape.{Shape}
+use Rattle.gn_rules.specs.Things.{all_nodes}
+use Rattle.gn_rules.specs.Walk.{breaks, breaks_node, in_group_name, in_node, in_settings, first_node, in_sockets, in_given_out, first_input, in_group, first_group, this_or, in_input, in_output, breaks_all}
+use Rattle.gn_rules.specs.Sockets.{Declared, one_of, inputs_of}
+use Rattle.gn_check.specs.Nodes.{settings_in, inputs_in}
+use Rattle.gn_check.specs.Settings.{group_set, zone_set}
+use Rattle.gn_check.specs.Zones.{in_inputs_of_node, in_zone, in_body}
+
+abbrev pub Found : Type 0
+Found = Option (VecDeque CodeStep Global)
+
+abbrev pub Answer : Type 0
+Answer = Result Found Memory
+
+-- an answer is a place
+abbrev pub Is : Answer → Option Place → Type 0
+Is r place = IfOk r (λ found. option_map place_of found ≡ place)
+
+pub is_same : (r : Answer) (x y : Option Place) → x ≡ y → Is r x → Is r y
+is_same (Ok found) x y e h = h ∙ e
+is_same (Err m) x y e h = tt
+
+first_wins : (k : Step) (found : Found) (rest : Option Place) → is_some found ≡ true → joined k (option_map place_of found) None ≡ joined k (option_map place_of found) rest
+first_wins k None rest h = absurd (cc)
+first_wins k (Some place) rest h = refl
+
+next_goes : (k : Step) (found : Found) (rest : Option Place) → is_some found ≡ false → rest ≡ joined k (option_map place_of found) rest
+next_goes k None rest h = refl
+next_goes k (Some place) rest h = absurd (cc)
+
+-- what was found in the first of two parts, or in the second where nothing was found in the first
+pub in_first : (k : Step) (found : Found) (first rest all : Option Place) (r : Answer) → is_some found ≡ true → option_map place_of found ≡ first → all ≡ joined k first rest → Is r (joined k (option_map place_of found) None) → Is r all
+in_first k found first rest all r h e a i = is_same r (joined k (option_map place_of found) None) all (first_wins k found rest h ∙ (ap (λ x. joined k x rest) e ∙ sym a)) i
+
+pub in_rest : (k : Step) (found : Found) (first rest all : Option Place) (r : Answer) → is_some found ≡ false → option_map place_of found ≡ first → all ≡ joined k first rest → Is r rest → Is r all
+in_rest k found first rest all r h e a i = is_same r rest all (next_goes k found rest h ∙ (ap (λ x. joined k x rest) e ∙ sym a)) i
+
+pub in_last : (k : Step) (found : Found) (last : Option Place) (r : Answer) → option_map place_of found ≡ last → Is r (joined k (option_map place_of found) None) → Is r (joined k last None)
+in_last k found last r e i = is_same r (joined k (option_map place_of found) None) (joined k last None) (ap (λ x. joined k x None) e) i
+
+-- ---- nodes
+
+pub size_of_node : (n : Node) → node_size n ≡ suc (settings_size (settings_in n))
+size_of_node (node id kind set inputs) = refl
+
+node_way_at : (r : Rule) (sc : Scope) (i : ℕ) (n : Node) → breaks_node r sc i n ≡ false
+    → in_node (breaks r) sc i n ≡ joined (key (codes "in")) (in_inputs_of_node (breaks r) sc n) (joined (key (codes "set")) (in_settings (breaks r) sc (settings_in n)) None)
+node_way_at r sc i (node id kind set inputs) e = rw e
+
+pub node_way : (r : Rule) (sc : Scope) (i : ℕ) (n : Node) (b : Bool) → b ≡ breaks_node r sc i n → b ≡ false
+    → in_node (breaks r) sc i n ≡ joined (key (codes "in")) (in_inputs_of_node (breaks r) sc n) (joined (key (codes "set")) (in_settings (breaks r) sc (settings_in n)) None)
+node_way r sc i n b e f = node_way_at r sc i n (sym e ∙ f)
+
+-- ---- settings
+
+pub settings_way : (r : Rule) (sc : Scope) (x : Setting) (rest : Settings)
+    → in_settings (breaks r) sc (setting_then x rest) ≡ option_map_or (λ name. in_group_name (breaks r) sc name) (group_set x) (option_map_or (λ z. in_zone (breaks r) sc z) (zone_set x) (in_settings (breaks r) sc rest))
+settings_way r sc (s.Group name) rest = refl
+settings_way r sc (s.Zone zone) rest = refl
+settings_way r sc _ rest = refl
+
+no_group : (x : Setting) (z : Zone) → zone_set x ≡ Some z → group_set x ≡ None
+no_group (s.Group name) z e = absurd (cc)
+no_group (s.Zone zone) z e = refl
+no_group _ z e = refl
+
+-- where the next setting is a zone
+pub zone_next : (r : Rule) (sc : Scope) (xs : List Setting) (i : ℕ) (x : Setting) (z : Zone) → i < length xs → x ≡ get_or xs i x → zone_set x ≡ Some z → in_settings (breaks r) sc (settings_of (drop i xs)) ≡ in_zone (breaks r) sc z
+zone_next r sc xs i x z h e f =
+    ap (λ ys. in_settings (breaks r) sc (settings_of ys)) (drop_more xs i x h)
+    ∙ (ap (λ y. in_settings (breaks r) sc (setting_then y (settings_of (drop (i + 1) xs)))) (sym e)
+    ∙ (settings_way r sc x (settings_of (drop (i + 1) xs))
+    ∙ (ap (λ o. option_map_or (λ name. in_group_name (breaks r) sc name) o (option_map_or (λ y. in_zone (breaks r) sc y) (zone_set x) (in_settings (breaks r) sc (settings_of (drop (i + 1) xs))))) (no_group x z f)
+    ∙ ap (λ o. option_map_or (λ y. in_zone (breaks r) sc y) o (in_settings (breaks r) sc (settings_of (drop (i + 1) xs)))) f)))
+
+pub zone_smaller : (x : Setting) (z : Zone) → zone_set x ≡ Some z → nodes_size (nodes_of z.nodes.items) < settings_size (setting_then x no_settings)
+zone_smaller (s.Zone y) z e =
+    let same : nodes_size (nodes_of y.nodes.items) ≡ nodes_size (nodes_of z.nodes.items) = ap (λ o. option_map_or (λ v. nodes_size (nodes_of v.nodes.items)) o 0) e in
+    omega arith
+zone_smaller _ z e = absurd (cc)
+
+-- ---- zones
+
+pub zone_way : (r : Rule) (sc : Scope) (z : Zone) (items : List Socket) (inner : Scope) (nodes : Nodes) → items ≡ map socket_of z.items.items → inner ≡ zone_scope sc items (nodes_of z.nodes.items) → nodes ≡ nodes_of z.nodes.items
+    → in_zone (breaks r) sc z
+    ≡ joined (key (codes "items")) (in_sockets (breaks r) items)
+    (joined (key (codes "nodes")) (first_node (breaks r) inner 0 nodes) (joined (key (codes "output")) (in_given_out (breaks r) inner items (map named_of z.output.items)) None))
+zone_way r sc z items inner nodes e f g = rw (f, g, e) refl
+
+-- what is found in the nodes, and in what the body gives out, by the scope that the code has
+pub nodes_way : (r q : Rule) (one other : Scope) (ms ns : Nodes) → q ≡ r → one ≡ other → ms ≡ ns → first_node (breaks q) one 0 ms ≡ first_node (breaks r) other 0 ns
+nodes_way r q one other ms ns e f g = rw (e, f, g) refl
+
+pub inputs_way : (r : Rule) (sc : Scope) (n : Node) (ds : List Declared) (xs : List Named) → ds ≡ inputs_of sc.groups n → xs ≡ inputs_in n → first_input (breaks r) sc ds xs ≡ in_inputs_of_node (breaks r) sc n
+inputs_way r sc n ds xs e f = rw (e, f) refl
+
+-- ---- groups
+
+pub group_next : (r : Rule) (all : List Group) (xs : List CodeGroup) (i : ℕ) (x : CodeGroup) → i < length xs → x ≡ get_or xs i x
+    → first_group (breaks r) all i (map group_of (drop i xs)) ≡ joined (index i) (in_group (breaks r) all i (group_of x)) (first_group (breaks r) all (i + 1) (map group_of (drop (i + 1) xs)))
+group_next r all xs i x h e =
+    let more : suc i ≡ i + 1 = omega arith in
+    ap (λ ys. first_group (breaks r) all i (map group_of ys)) (drop_more xs i x h)
+    ∙ (ap (λ y. joined (index i) (in_group (breaks r) all i (group_of y)) (first_group (breaks r) all (suc i) (map group_of (drop (i + 1) xs)))) (sym e)
+    ∙ ap (λ n. joined (index i) (in_group (breaks r) all i (group_of x)) (first_group (breaks r) all n (map group_of (drop (i + 1) xs)))) more)
+
+-- the rest where nothing was found
+pub rest_alone : (k : Step) (found : Found) (first rest : Option Place) → is_some found ≡ false → option_map place_of found ≡ first → joined k first rest ≡ rest
+rest_alone k found first rest h e = ap (λ x. joined k x rest) (sym e) ∙ sym (next_goes k found rest h)
+
+pub results_way : (r q : Rule) (sc : Scope) (outs : List Socket) (xs : List Named) (found : Option Place) → q ≡ r → found ≡ in_given_out (breaks q) sc outs xs → found ≡ in_given_out (breaks r) sc outs xs
+results_way r q sc outs xs found e f = f ∙ ap (λ p. in_given_out (breaks p) sc outs xs) e
+
+pub scope_way : (gs : List Group) (i : ℕ) (g : Group) (inputs : List Socket) (sc : Scope) → inputs ≡ g.inputs → sc ≡ record { nodes = g.nodes; entries = map one_of inputs; groups = gs; above = i } → sc ≡ group_scope gs i g
+scope_way gs i g inputs sc e f = f ∙ ap (λ xs. record { nodes = g.nodes; entries = map one_of xs; groups = gs; above = i }) e
+
+-- ---- the tree
+
+pub tree_scope_way : (t : Tree) (gs : List Group) (a : ℕ) (sc : Scope) → gs ≡ t.groups → a ≡ length gs → sc ≡ record { nodes = t.nodes; entries = tree_entries; groups = gs; above = a } → sc ≡ tree_scope t
+tree_scope_way t gs a sc e n f =
+    f ∙ (ap (λ m. record { nodes = t.nodes; entries = tree_entries; groups = gs; above = m }) n
+    ∙ ap (λ xs. record { nodes = t.nodes; entries = tree_entries; groups = xs; above = length xs }) e)
+
+abbrev pub own_nodes : Rule → Tree → Option Place
+own_nodes r t = joined (key (codes "nodes")) (this_or (breaks r) (all_nodes t) (first_node (breaks r) (tree_scope t) 0 t.nodes)) (in_output (breaks r) (tree_scope t) t.output)
+
+pub own_nodes_break : (r : Rule) (t : Tree) (found : Found) → breaks_all r t ≡ true → option_map place_of found ≡ Some [] → joined (key (codes "nodes")) (option_map place_of found) None ≡ own_nodes r t
+own_nodes_break r t found e f = ap (λ x. joined (key (codes "nodes")) x None) f ∙ sym (rw e)
+
+pub own_nodes_keep : (r : Rule) (t : Tree) → breaks_all r t ≡ false → in_body (breaks r) t ≡ own_nodes r t
+own_nodes_keep r t e = sym (rw e)
+
+pub groups_way : (r : Rule) (gs hs : List Group) → gs ≡ hs → first_group (breaks r) gs 0 gs ≡ first_group (breaks r) hs 0 hs
+groups_way r gs hs e = ap (λ xs. first_group (breaks r) xs 0 xs) e
+
+pub output_way : (r q : Rule) (one other : Scope) (shape there : Option Shape) (x : Input) → q ≡ r → one ≡ other → shape ≡ there → in_input (breaks q) one shape x ≡ in_input (breaks r) other there x
+output_way r q one other shape there x e f g = rw (e, f, g) refl

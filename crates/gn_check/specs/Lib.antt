@@ -1,0 +1,9 @@
+pub mod Settings
+pub mod Capped
+pub mod Measures
+pub mod Groups
+pub mod Nodes
+pub mod Scopes
+pub mod Seen
+pub mod Zones
+pub mod Answers

@@ -1,0 +1,31 @@
+-- Scopes of the code as those of the rules.
+use Rattle.std.specs.Prelude.{List, [], ◌++◌, map}
+use Rattle.gn_kinds.specs.Seen.{input_of as row_of}
+use Rattle.gn_cycle.specs.Graph as cycle
+use Rattle.gn_tree.specs.Trees as t
+use Rattle.gn_tree.specs.Seen.{socket_of}
+use Rattle.gn_rules.specs.declared.rule.Rule.{Rule}
+use Rattle.gn_rules.specs.declared.rule.Rule.TheVariants as rule
+use Rattle.gn_rules.specs.Sockets.{Declared, one_of, input_of_row, items_in}
+use Rattle.gn_rules.specs.Scopes.{tree_entries, zone_entries}
+use Rattle.gn_rules.specs.Rules.{graph_of}
+use Rattle.gn_check.specs.Nodes.{settings_in}
+use Rattle.gn_check.specs.declared.scope.Entries.{Entries}
+use Rattle.gn_check.specs.declared.scope.Entries.TheVariants as e
+use Rattle.gn_check.specs.declared.scope.Inputs.{Inputs}
+
+abbrev pub entries_of : Entries → List Declared
+entries_of e.Tree = tree_entries
+entries_of (e.Group sockets) = map one_of (map socket_of sockets.now.list.now)
+entries_of (e.Zone items) = zone_entries (map socket_of items.now.list.now)
+
+abbrev pub declared_by : Inputs → List Declared
+declared_by x = map (input_of_row x.chosen) (map row_of x.rows.now) ++ map one_of (map socket_of x.others.now.list.now)
+
+abbrev pub items_of_node : t.Node → List t.Socket
+items_of_node n = items_in (settings_in n)
+
+-- the graph that the rule looks at
+abbrev pub graph_for : Rule → t.Nodes → cycle.Graph
+graph_for rule.Order nodes = graph_of nodes
+graph_for _ nodes = []

@@ -1,0 +1,233 @@
+ghost use Rattle.std.specs.Prelude.{◌≡◌, IfOk, map, false, nat_lt};
+ghost use Rattle.std.specs.Option.{option_map_or};
+ghost use Rattle.gn_cycle.specs.Ways.{is_on_cycle};
+ghost use Rattle.gn_rules.specs.declared.rule.Rule.TheVariants as named;
+ghost use Rattle.std.specs.List.{list_any};
+ghost use Rattle.gn_tree.specs.Seen.{input_of, link_of, tree_of};
+ghost use Rattle.gn_rules.specs.Rules as rules;
+ghost use Rattle.gn_rules.specs.Walk as walk;
+ghost use Rattle.gn_check.specs.Seen.{scope_of};
+
+use crate::groups::Groups;
+use crate::measure::{Known, counts, height};
+use crate::scope::{Scope, id_of, settings_of};
+use crate::setting::is_zone;
+use gn_kinds::SocketKind;
+use gn_memory::Memory;
+use gn_names::Names;
+use gn_rules::{Rule, Shape};
+use gn_tree::{Node, Tree, TreeInput, TreeLink};
+use gn_value::Value;
+use std::alloc::Global;
+
+fn is_reserved(name: &str) -> bool
+    ensures { result ≡ rules.is_reserved name.now }
+{
+    if name == "input" {
+        return true;
+    }
+    if name == "output" {
+        return true;
+    }
+    if name == "iteration" {
+        return true;
+    }
+    name == "iterations"
+}
+
+fn is_earlier(names: &Names<'_>, number: usize, name: &str) -> bool
+    ensures { result ≡ rules.is_earlier names.now number name.now }
+{
+    match names.first(name) {
+        Some(first) => first < number,
+        None => false,
+    }
+}
+
+fn is_taken(names: &Names<'_>, number: usize, name: &str) -> bool
+    ensures { result ≡ rules.is_taken names.now number name.now }
+{
+    is_reserved(name) | is_earlier(names, number, name)
+}
+
+/// Whether the name with that number breaks the rule in its list.
+pub(crate) fn name_breaks(rule: Rule, names: &Names<'_>, number: usize, name: &str) -> bool
+    ensures { result ≡ walk.breaks_name rule names.now number name.now }
+{
+    match rule {
+        Rule::Names => is_taken(names, number, name),
+        _ => false,
+    }
+}
+
+/// Whether a link in an array of links breaks the rule by itself.
+pub(crate) fn link_breaks(scope: &Scope<'_>, link: &TreeLink) -> bool
+    ensures { result ≡ walk.breaks_link scope.now.rule (scope_of scope.now) (link_of link.now) }
+{
+    match scope.rule {
+        Rule::Links => scope.source(link).is_none(),
+        _ => false,
+    }
+}
+
+/// Whether the name of a group breaks the rule.
+pub(crate) fn group_name_breaks(scope: &Scope<'_>, name: &str) -> bool
+    ensures { result ≡ walk.breaks_group_name scope.now.rule (scope_of scope.now) name.now }
+{
+    match scope.rule {
+        Rule::Links => !scope.is_above(name),
+        _ => false,
+    }
+}
+
+fn is_loose(scope: &Scope<'_>, input: &TreeInput) -> bool
+    ensures { result ≡ rules.is_loose (scope_of scope.now) (input_of input.now) }
+{
+    match input {
+        TreeInput::Constant { .. } => false,
+        TreeInput::Link { link } => scope.source(link).is_none(),
+        TreeInput::Links { .. } => false,
+    }
+}
+
+fn is_geometry(kind: SocketKind) -> bool
+    ensures { result ≡ rules.is_geometry kind }
+{
+    match kind {
+        SocketKind::Geometry => true,
+        _ => false,
+    }
+}
+
+/// Whether one of the kinds is geometry, and the other is not.
+fn clash(one: SocketKind, other: SocketKind) -> bool
+    ensures { result ≡ rules.clash one other }
+{
+    if is_geometry(one) {
+        return !is_geometry(other);
+    }
+    is_geometry(other)
+}
+
+fn is_of(kind: SocketKind, value: &Value) -> bool
+    ensures { result ≡ rules.is_of kind value.now }
+{
+    match (kind, value) {
+        (SocketKind::Truth, Value::Truth(_)) => true,
+        (SocketKind::Int, Value::Int(_)) => true,
+        (SocketKind::Fixed, Value::Fixed(_)) => true,
+        (SocketKind::Vector, Value::Vector(_)) => true,
+        _ => false,
+    }
+}
+
+fn link_clashes(scope: &Scope<'_>, kind: SocketKind, link: &TreeLink) -> bool
+    ensures { result ≡ rules.link_clashes (scope_of scope.now) kind (link_of link.now) }
+{
+    match scope.source(link) {
+        Some(shape) => clash(kind, shape.kind),
+        None => false,
+    }
+}
+
+fn any_clashes(scope: &Scope<'_>, kind: SocketKind, links: &[TreeLink]) -> bool
+    ensures { result ≡ list_any (rules.link_clashes (scope_of scope.now) kind) (map link_of links.now) }
+{
+    for link in links {
+        if link_clashes(scope, kind, link) {
+            return true;
+        }
+    }
+    false
+}
+
+/// Whether the input is none for a socket that carries this.
+fn is_unfit(scope: &Scope<'_>, shape: Shape, input: &TreeInput) -> bool
+    ensures { result ≡ rules.is_unfit (scope_of scope.now) shape (input_of input.now) }
+{
+    match input {
+        TreeInput::Constant { value } => !is_of(shape.kind, value),
+        TreeInput::Link { link } => link_clashes(scope, shape.kind, link),
+        TreeInput::Links { links } => !shape.many | any_clashes(scope, shape.kind, links),
+    }
+}
+
+fn is_unfit_for(scope: &Scope<'_>, shape: Option<Shape>, input: &TreeInput) -> bool
+    ensures { result ≡ option_map_or (λ there. rules.is_unfit (scope_of scope.now) there (input_of input.now)) shape false }
+{
+    match shape {
+        Some(shape) => is_unfit(scope, shape, input),
+        None => false,
+    }
+}
+
+/// Whether the input breaks the rule by itself, at a socket that carries this, if there is one.
+pub(crate) fn input_breaks(scope: &Scope<'_>, shape: Option<Shape>, input: &TreeInput) -> bool
+    ensures { result ≡ walk.breaks_input scope.now.rule (scope_of scope.now) shape (input_of input.now) }
+{
+    match scope.rule {
+        Rule::Links => shape.is_none() | is_loose(scope, input),
+        Rule::Kinds => is_unfit_for(scope, shape, input),
+        _ => false,
+    }
+}
+
+/// Whether the node is a zone higher than 2.
+fn is_too_high(scope: &Scope<'_>, node: &Node) -> bool
+    ensures { result ≡ rules.is_too_high (scope_of scope.now) node.now }
+{
+    let above = Known {
+        names: &scope.groups.names,
+        numbers: scope.groups.heights.as_slice(),
+        above: scope.above,
+    };
+    is_zone(settings_of(node)) & (2 < height(&above, node))
+}
+
+fn is_on_cycle(alloc: Global, scope: &Scope<'_>, number: usize) -> Result<bool, Memory>
+    requires { scope.now.rule ≡ named.Order }
+    ensures { IfOk result (λ found. found ≡ is_on_cycle (rules.graph_of (scope_of scope.now).nodes) number) }
+{
+    scope.graph.is_on_cycle(alloc, number)
+}
+
+/// Whether the node with that number breaks the rule by itself.
+pub(crate) fn node_breaks(
+    alloc: Global,
+    scope: &Scope<'_>,
+    number: usize,
+    node: &Node,
+) -> Result<bool, Memory>
+    ensures { IfOk result (λ found. found ≡ walk.breaks_node scope.now.rule (scope_of scope.now) number node.now) }
+{
+    match scope.rule {
+        Rule::Names => Ok(is_taken(&scope.ids, number, id_of(node))),
+        Rule::Order => is_on_cycle(alloc, scope, number),
+        Rule::Height => Ok(is_too_high(scope, node)),
+        _ => Ok(false),
+    }
+}
+
+/// Whether the tree has more than 16,384 nodes.
+fn has_too_many(groups: &Groups<'_>, tree: &Tree) -> bool
+    requires { groups.now.list.now ≡ tree.now.groups.items }
+    ensures { result ≡ nat_lt 16384 (rules.node_count (tree_of tree.now)) }
+{
+    let all = Known {
+        names: &groups.names,
+        numbers: groups.counts.as_slice(),
+        above: groups.list.len(),
+    };
+    16_384 < counts(&all, &tree.nodes)
+}
+
+/// Whether the tree's own list of nodes breaks the rule by itself.
+pub(crate) fn tree_breaks(rule: Rule, groups: &Groups<'_>, tree: &Tree) -> bool
+    requires { groups.now.list.now ≡ tree.now.groups.items }
+    ensures { result ≡ walk.breaks_all rule (tree_of tree.now) }
+{
+    match rule {
+        Rule::Count => has_too_many(groups, tree),
+        _ => false,
+    }
+}

@@ -1,0 +1,93 @@
+ghost use Rattle.std.specs.Prelude.{◌≡◌, IfOk, option_map};
+ghost use Rattle.gn_places.specs.Seen.{place_of};
+ghost use Rattle.gn_tree.specs.Rising.{NamesRiseInTree};
+ghost use Rattle.gn_tree.specs.Seen.{tree_of};
+ghost use Rattle.gn_rules.specs.Walk as walk;
+ghost use Rattle.gn_rules.specs.Walk.{Tells};
+ghost use Rattle.gn_check.specs.Answers.{Answers};
+
+use crate::fault::CheckFault;
+use crate::good::GoodTree;
+use crate::groups::Groups;
+use crate::walk::in_tree;
+use gn_memory::Memory;
+use gn_places::{Step, place_text};
+use gn_rules::Rule;
+use gn_tree::Tree;
+use std::alloc::Global;
+use std::collections::VecDeque;
+
+/// The rules from the least.
+static RULES: [Rule; 6] = [
+    Rule::Names,
+    Rule::Links,
+    Rule::Kinds,
+    Rule::Order,
+    Rule::Height,
+    Rule::Count,
+];
+
+/// The first of these rules that the tree breaks, with the first place where it does.
+fn first_of(
+    alloc: Global,
+    tree: &Tree,
+    groups: &Groups<'_>,
+    rules: &[Rule],
+) -> Result<Option<(Rule, VecDeque<Step>)>, Memory>
+    requires { groups.now.list.now ≡ tree.now.groups.items }
+    ensures { IfOk result (λ found. option_map (λ x. (x.0, place_of x.1)) found ≡ walk.named_from (tree_of tree.now) rules.now) }
+{
+    for rule in rules {
+        if let Some(place) = in_tree(alloc, *rule, tree, groups)? {
+            return Ok(Some((*rule, place)));
+        }
+    }
+    Ok(None)
+}
+
+/// The least rule that the tree breaks, with the first place where it does.
+fn first_broken(alloc: Global, tree: &Tree) -> Result<Option<(Rule, VecDeque<Step>)>, Memory>
+    ensures { IfOk result (λ found. option_map (λ x. (x.0, place_of x.1)) found ≡ walk.named (tree_of tree.now)) }
+{
+    let groups = Groups::new(alloc, &tree.groups)?;
+    first_of(alloc, tree, &groups, &RULES)
+}
+
+/// The tree, or the number and the place of the rule that was found.
+fn judge(
+    alloc: Global,
+    tree: Tree,
+    found: Result<Option<(Rule, VecDeque<Step>)>, Memory>,
+) -> Result<GoodTree, CheckFault>
+    requires { IfOk found (λ named. Tells (tree_of tree) (option_map (λ x. (x.0, place_of x.1)) named)) }
+    ensures { Answers (tree_of tree) result }
+{
+    match found {
+        Ok(None) => Ok(GoodTree { tree }),
+        Ok(Some((rule, place))) => match place_text(alloc, &place) {
+            Ok(place) => Err(CheckFault::Form {
+                place,
+                rule: rule.number(),
+            }),
+            Err(_) => Err(CheckFault::Memory),
+        },
+        Err(_) => Err(CheckFault::Memory),
+    }
+}
+
+/// Checks a tree that is of its form by the rules F2 to F7. In it, the inputs of each node, and what
+/// each zone and each group gives out, stand in the order of their names' bytes, as in what
+/// `gn_json::read` gives.
+///
+/// # Errors
+///
+/// `Form` with the least rule that the tree breaks, by its number, and the first place where it does,
+/// a JSON Pointer: an object stands before its members, arrays go by index, keys by bytes. `Memory`
+/// where there was no memory.
+pub fn check(alloc: Global, tree: Tree) -> Result<GoodTree, CheckFault>
+    requires { NamesRiseInTree (tree_of tree) }
+    ensures { Answers (tree_of tree) result }
+{
+    let found = first_broken(alloc, &tree);
+    judge(alloc, tree, found)
+}

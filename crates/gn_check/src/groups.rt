@@ -1,0 +1,153 @@
+ghost use Rattle.std.specs.Prelude.{◌≡◌, [], IfOk, map, slice_get};
+ghost use Rattle.std.specs.Option.{option_map_or};
+ghost use Rattle.gn_tree.specs.Seen.{group_of, socket_of};
+ghost use Rattle.gn_rules.specs.Sockets.{group_names, group_named};
+ghost use Rattle.gn_check.specs.Groups.{lists_in, side_of, heights_capped, counts_capped};
+ghost use Rattle.gn_rules.specs.Measures.{group_by_group};
+ghost use Rattle.gn_check.specs.Capped.{capped_heights, capped_counts};
+
+use crate::measure::{Known, counts, heights};
+use crate::sockets::Sockets;
+use gn_memory::Memory;
+use gn_names::Names;
+use gn_tree::Group;
+use std::alloc::Global;
+
+/// Which sockets of a group are meant.
+#[derive(Clone, Copy)]
+pub(crate) enum Side {
+    Inputs,
+    Outputs,
+}
+
+/// The groups of a tree, with what is looked up of them by name.
+#[derive(Drop)]
+pub(crate) struct Groups<'a> {
+    pub(crate) list: &'a [Group],
+    pub(crate) names: Names<'a>,
+    pub(crate) inputs: Vec<Sockets<'a>>,
+    pub(crate) outputs: Vec<Sockets<'a>>,
+    pub(crate) none: Sockets<'a>,
+    pub(crate) heights: Vec<u64>,
+    pub(crate) counts: Vec<u64>,
+    ghost named: { names ≡ group_names (map group_of list.now) },
+    ghost with_inputs: { lists_in inputs.items ≡ map (λ g. g.inputs) (map group_of list.now) },
+    ghost with_outputs: { lists_in outputs.items ≡ map (λ g. g.outputs) (map group_of list.now) },
+    ghost without: { none.list.now ≡ [] },
+    ghost with_heights: { heights.items ≡ heights_capped (map group_of list.now) },
+    ghost with_counts: { counts.items ≡ counts_capped (map group_of list.now) },
+}
+
+fn names_of<'a>(alloc: Global, list: &'a [Group]) -> Result<Vec<&'a str>, Memory>
+    ensures { IfOk result (λ texts. map (λ text. text.now) texts.items ≡ group_names (map group_of list.now)) }
+{
+    let mut texts = Vec::with_capacity(alloc, list.len())?;
+    for group in list {
+        texts.push(group.name.as_str())?;
+    }
+    Ok(texts)
+}
+
+fn sockets_of<'a>(alloc: Global, group: &'a Group, side: Side) -> Result<Sockets<'a>, Memory>
+    ensures { IfOk result (λ sockets. map socket_of sockets.list.now ≡ side_of side (group_of group.now)) }
+{
+    match side {
+        Side::Inputs => Sockets::new(alloc, &group.inputs),
+        Side::Outputs => Sockets::new(alloc, &group.outputs),
+    }
+}
+
+fn all_sockets<'a>(alloc: Global, list: &'a [Group], side: Side) -> Result<Vec<Sockets<'a>>, Memory>
+    ensures { IfOk result (λ sockets. lists_in sockets.items ≡ map (side_of side) (map group_of list.now)) }
+{
+    let mut sockets = Vec::with_capacity(alloc, list.len())?;
+    for group in list {
+        sockets.push(sockets_of(alloc, group, side)?)?;
+    }
+    Ok(sockets)
+}
+
+fn all_heights(alloc: Global, names: &Names<'_>, list: &[Group]) -> Result<Vec<u64>, Memory>
+    ensures { IfOk result (λ numbers. numbers.items ≡ group_by_group capped_heights names.now [] (map group_of list.now)) }
+{
+    let mut numbers = Vec::with_capacity(alloc, list.len())?;
+    for group in list {
+        let above = Known {
+            names: &*names,
+            numbers: numbers.as_slice(),
+            above: numbers.len(),
+        };
+        let height = heights(&above, &group.nodes);
+        numbers.push(height)?;
+    }
+    Ok(numbers)
+}
+
+fn all_counts(alloc: Global, names: &Names<'_>, list: &[Group]) -> Result<Vec<u64>, Memory>
+    ensures { IfOk result (λ numbers. numbers.items ≡ group_by_group capped_counts names.now [] (map group_of list.now)) }
+{
+    let mut numbers = Vec::with_capacity(alloc, list.len())?;
+    for group in list {
+        let above = Known {
+            names: &*names,
+            numbers: numbers.as_slice(),
+            above: numbers.len(),
+        };
+        let count = counts(&above, &group.nodes);
+        numbers.push(count)?;
+    }
+    Ok(numbers)
+}
+
+impl<'a> Groups<'a> {
+    pub(crate) fn new(alloc: Global, list: &'a [Group]) -> Result<Groups<'a>, Memory>
+        ensures { IfOk result (λ groups. groups.list.now ≡ list.now) }
+    {
+        let names = Names::new(alloc, names_of(alloc, list)?)?;
+        let inputs = all_sockets(alloc, list, Side::Inputs)?;
+        let outputs = all_sockets(alloc, list, Side::Outputs)?;
+        let none = Sockets::new(alloc, &[])?;
+        let heights = all_heights(alloc, &names, list)?;
+        let counts = all_counts(alloc, &names, list)?;
+        Ok(Groups {
+            list,
+            names,
+            inputs,
+            outputs,
+            none,
+            heights,
+            counts,
+        })
+    }
+
+    fn side(&self, side: Side) -> &[Sockets<'a>]
+        ensures { lists_in result.now ≡ map (side_of side) (map group_of self.now.list.now) }
+    {
+        match side {
+            Side::Inputs => self.inputs.as_slice(),
+            Side::Outputs => self.outputs.as_slice(),
+        }
+    }
+
+    fn at(&self, side: Side, place: usize) -> &Sockets<'a>
+        ensures { map socket_of result.now.list.now
+            ≡ option_map_or (side_of side) (slice_get (map group_of self.now.list.now) place) [] }
+    {
+        let all = self.side(side);
+        if place < all.len() {
+            return &all[place];
+        }
+        &self.none
+    }
+
+    /// The inputs or the outputs of the group with that name; none where there is no such group.
+    pub(crate) fn sockets(&self, side: Side, name: &str) -> &Sockets<'a>
+        ensures { map socket_of result.now.list.now
+            ≡ option_map_or (side_of side) (group_named (map group_of self.now.list.now) name.now) [] }
+    {
+        let Some(place) = self.names.first(name) else {
+            return &self.none;
+        };
+        self.at(side, place)
+    }
+}

@@ -1,0 +1,24 @@
+//! The check of a tree by the rules F2 to F7.
+//!
+//! `check` promises the least rule that a tree breaks with the first place where it does, or a
+//! `GoodTree`, which keeps all of them. It goes through the tree rule by rule, and looks names up in
+//! maps that it makes once for each list: no link and no key costs a walk over a list. Heights and
+//! numbers of nodes are found group by group, each once. It stands on the rules of `gn_rules`, on
+//! the trees of `gn_tree`, and on the look-ups of `gn_names` and the search of `gn_cycle`.
+#![tactic(auto)]
+
+mod broken;
+mod checked;
+mod edges;
+mod fault;
+mod good;
+mod groups;
+mod measure;
+mod scope;
+mod setting;
+mod sockets;
+mod walk;
+
+pub use checked::check;
+pub use fault::CheckFault;
+pub use good::GoodTree;

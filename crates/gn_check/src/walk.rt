@@ -1,0 +1,387 @@
+ghost use Rattle.std.specs.Prelude.{◌≡◌, None, Some, [], IfOk, map, option_map, slice_get};
+ghost use Rattle.gn_places.specs.Place.{key, index, joined};
+ghost use Rattle.gn_places.specs.Seen.{step_of, place_of};
+ghost use Rattle.gn_tree.specs.Seen.{group_of, input_of, link_of, named_of, nodes_of, settings_of, socket_of, tree_of};
+ghost use Rattle.gn_rules.specs.Walk as walk;
+ghost use Rattle.gn_rules.specs.Walk.{breaks};
+ghost use Rattle.gn_check.specs.Scopes.{declared_by};
+ghost use Rattle.gn_check.specs.Seen.{scope_of};
+ghost use Rattle.gn_check.specs.Zones.{in_inputs_of_node, in_zone, in_results, in_parts, in_body};
+
+use crate::broken::{
+    group_name_breaks, input_breaks, link_breaks, name_breaks, node_breaks, tree_breaks,
+};
+use crate::groups::Groups;
+use crate::scope::{Entries, Inputs, Scope, inputs_of, settings_of};
+use crate::setting::{group_set, zone_set};
+use crate::sockets::{Sockets, single};
+use gn_kinds::SocketKind;
+use gn_memory::Memory;
+use gn_places::Step;
+use gn_rules::{Rule, Shape};
+use gn_tree::{Group, Node, Setting, Tree, TreeInput, TreeLink, Zone};
+use std::alloc::Global;
+use std::collections::VecDeque;
+
+/// A place that was found under that number of an array.
+fn at_number(found: Option<VecDeque<Step>>, number: usize) -> Result<Option<VecDeque<Step>>, Memory>
+    ensures { IfOk result (λ place. option_map place_of place ≡ joined (index number) (option_map place_of found) None) }
+{
+    match found {
+        Some(mut place) => {
+            place.push_front(Step::Index(number as u64))?;
+            Ok(Some(place))
+        }
+        None => Ok(None),
+    }
+}
+
+/// A place that was found under that key of an object.
+fn at_key(
+    alloc: Global,
+    found: Option<VecDeque<Step>>,
+    name: &str,
+) -> Result<Option<VecDeque<Step>>, Memory>
+    ensures { IfOk result (λ place. option_map place_of place ≡ joined (key name.now) (option_map place_of found) None) }
+{
+    match found {
+        Some(mut place) => {
+            place.push_front(Step::Key(String::from_str(alloc, name)?))?;
+            Ok(Some(place))
+        }
+        None => Ok(None),
+    }
+}
+
+/// The place of a value itself.
+fn here(alloc: Global) -> Option<VecDeque<Step>>
+    ensures { option_map place_of result ≡ Some [] }
+{
+    Some(VecDeque::new(alloc))
+}
+
+fn first_link(
+    alloc: Global,
+    scope: &Scope<'_>,
+    links: &[TreeLink],
+) -> Result<Option<VecDeque<Step>>, Memory>
+    ensures { IfOk result (λ place. option_map place_of place
+        ≡ walk.first_link (breaks scope.now.rule) (scope_of scope.now) 0 (map link_of links.now)) }
+{
+    let mut number: usize = 0;
+    for link in links {
+        if link_breaks(scope, link) {
+            return at_number(here(alloc), number);
+        }
+        number += 1;
+    }
+    Ok(None)
+}
+
+fn in_input(
+    alloc: Global,
+    scope: &Scope<'_>,
+    shape: Option<Shape>,
+    input: &TreeInput,
+) -> Result<Option<VecDeque<Step>>, Memory>
+    ensures { IfOk result (λ place. option_map place_of place
+        ≡ walk.in_input (breaks scope.now.rule) (scope_of scope.now) shape (input_of input.now)) }
+{
+    if input_breaks(scope, shape, input) {
+        return Ok(here(alloc));
+    }
+    match input {
+        TreeInput::Constant { .. } => Ok(None),
+        TreeInput::Link { .. } => Ok(None),
+        TreeInput::Links { links } => first_link(alloc, scope, links),
+    }
+}
+
+/// The first place among inputs under the names of sockets, of which these are declared.
+fn first_input(
+    alloc: Global,
+    scope: &Scope<'_>,
+    declared: &Inputs<'_>,
+    inputs: &[(String, TreeInput)],
+) -> Result<Option<VecDeque<Step>>, Memory>
+    ensures { IfOk result (λ place. option_map place_of place
+        ≡ walk.first_input (breaks scope.now.rule) (scope_of scope.now) (declared_by declared.now) (map named_of inputs.now)) }
+{
+    for (name, input) in inputs {
+        let found = in_input(alloc, scope, declared.find(name), input)?;
+        if found.is_some() {
+            return at_key(alloc, found, name);
+        }
+    }
+    Ok(None)
+}
+
+/// The first place in what is given out by the names of these sockets.
+fn in_output(
+    alloc: Global,
+    scope: &Scope<'_>,
+    sockets: &Sockets<'_>,
+    output: &[(String, TreeInput)],
+) -> Result<Option<VecDeque<Step>>, Memory>
+    ensures { IfOk result (λ place. option_map place_of place
+        ≡ walk.in_given_out (breaks scope.now.rule) (scope_of scope.now) (map socket_of sockets.now.list.now) (map named_of output.now)) }
+{
+    let declared = Inputs {
+        rows: &[],
+        chosen: SocketKind::Geometry,
+        others: &*sockets,
+    };
+    first_input(alloc, scope, &declared, output)
+}
+
+fn in_sockets(
+    alloc: Global,
+    rule: Rule,
+    sockets: &Sockets<'_>,
+) -> Result<Option<VecDeque<Step>>, Memory>
+    ensures { IfOk result (λ place. option_map place_of place
+        ≡ walk.in_sockets (breaks rule) (map socket_of sockets.now.list.now)) }
+{
+    let mut number: usize = 0;
+    for socket in sockets.list {
+        if name_breaks(rule, &sockets.names, number, &socket.name) {
+            return at_number(here(alloc), number);
+        }
+        number += 1;
+    }
+    Ok(None)
+}
+
+fn in_group_name(
+    alloc: Global,
+    scope: &Scope<'_>,
+    name: &str,
+) -> Result<Option<VecDeque<Step>>, Memory>
+    ensures { IfOk result (λ place. option_map place_of place
+        ≡ walk.in_group_name (breaks scope.now.rule) (scope_of scope.now) name.now) }
+{
+    if group_name_breaks(scope, name) {
+        return at_key(alloc, here(alloc), "group");
+    }
+    Ok(None)
+}
+
+/// The first place in a list of nodes.
+#[cycle(walk)]
+fn first_node(alloc: Global, scope: &Scope<'_>) -> Result<Option<VecDeque<Step>>, Memory>
+    ensures { IfOk result (λ place. option_map place_of place
+        ≡ walk.first_node (breaks scope.now.rule) (scope_of scope.now) 0 (nodes_of scope.now.nodes.now.items)) }
+{
+    let mut number: usize = 0;
+    for node in scope.nodes {
+        let found = in_node(alloc, scope, number, node)?;
+        if found.is_some() {
+            return at_number(found, number);
+        }
+        number += 1;
+    }
+    Ok(None)
+}
+
+/// The first place in the inputs of a node.
+fn in_inputs(
+    alloc: Global,
+    scope: &Scope<'_>,
+    number: usize,
+    node: &Node,
+) -> Result<Option<VecDeque<Step>>, Memory>
+    requires { slice_get scope.now.nodes.now.items number ≡ Some node.now }
+    ensures { IfOk result (λ place. option_map place_of place ≡ in_inputs_of_node (breaks scope.now.rule) (scope_of scope.now) node.now) }
+{
+    let declared = scope.inputs_of(number, node);
+    first_input(alloc, scope, &declared, inputs_of(node))
+}
+
+#[cycle(walk)]
+fn in_node(
+    alloc: Global,
+    scope: &Scope<'_>,
+    number: usize,
+    node: &Node,
+) -> Result<Option<VecDeque<Step>>, Memory>
+    requires { slice_get scope.now.nodes.now.items number ≡ Some node.now }
+    ensures { IfOk result (λ place. option_map place_of place ≡ walk.in_node (breaks scope.now.rule) (scope_of scope.now) number node.now) }
+{
+    if node_breaks(alloc, scope, number, node)? {
+        return Ok(here(alloc));
+    }
+    let found = in_inputs(alloc, scope, number, node)?;
+    if found.is_some() {
+        return at_key(alloc, found, "in");
+    }
+    let found = in_settings(alloc, scope, settings_of(node))?;
+    at_key(alloc, found, "set")
+}
+
+#[cycle(walk)]
+fn in_settings(
+    alloc: Global,
+    scope: &Scope<'_>,
+    settings: &[Setting],
+) -> Result<Option<VecDeque<Step>>, Memory>
+    ensures { IfOk result (λ place. option_map place_of place
+        ≡ walk.in_settings (breaks scope.now.rule) (scope_of scope.now) (settings_of settings.now)) }
+{
+    for setting in settings {
+        if let Some(name) = group_set(setting) {
+            return in_group_name(alloc, scope, name);
+        }
+        if let Some(zone) = zone_set(setting) {
+            return in_zone(alloc, scope, zone);
+        }
+    }
+    Ok(None)
+}
+
+#[cycle(walk)]
+fn in_zone(alloc: Global, scope: &Scope<'_>, zone: &Zone) -> Result<Option<VecDeque<Step>>, Memory>
+    ensures { IfOk result (λ place. option_map place_of place ≡ in_zone (breaks scope.now.rule) (scope_of scope.now) zone.now) }
+{
+    let items = Sockets::new(alloc, &zone.items)?;
+    let found = in_sockets(alloc, scope.rule, &items)?;
+    if found.is_some() {
+        return at_key(alloc, found, "items");
+    }
+    let entries = Entries::Zone(&items);
+    let inner = Scope::new(
+        alloc,
+        scope.rule,
+        &zone.nodes,
+        entries,
+        scope.groups,
+        scope.above,
+    )?;
+    let found = first_node(alloc, &inner)?;
+    if found.is_some() {
+        return at_key(alloc, found, "nodes");
+    }
+    let found = in_output(alloc, &inner, &items, &zone.output)?;
+    at_key(alloc, found, "output")
+}
+
+/// The first place in what a group gives out and in its outputs.
+fn in_results(
+    alloc: Global,
+    scope: &Scope<'_>,
+    group: &Group,
+) -> Result<Option<VecDeque<Step>>, Memory>
+    ensures { IfOk result (λ place. option_map place_of place ≡ in_results (breaks scope.now.rule) (scope_of scope.now) (group_of group.now)) }
+{
+    let outputs = Sockets::new(alloc, &group.outputs)?;
+    let found = in_output(alloc, scope, &outputs, &group.output)?;
+    if found.is_some() {
+        return at_key(alloc, found, "output");
+    }
+    let found = in_sockets(alloc, scope.rule, &outputs)?;
+    at_key(alloc, found, "outputs")
+}
+
+/// The first place in the parts of the group with that number.
+fn in_parts(
+    alloc: Global,
+    rule: Rule,
+    groups: &Groups<'_>,
+    number: usize,
+    group: &Group,
+) -> Result<Option<VecDeque<Step>>, Memory>
+    ensures { IfOk result (λ place. option_map place_of place ≡ in_parts (breaks rule) (map group_of groups.now.list.now) number (group_of group.now)) }
+{
+    let inputs = Sockets::new(alloc, &group.inputs)?;
+    let found = in_sockets(alloc, rule, &inputs)?;
+    if found.is_some() {
+        return at_key(alloc, found, "inputs");
+    }
+    let entries = Entries::Group(&inputs);
+    let scope = Scope::new(alloc, rule, &group.nodes, entries, groups, number)?;
+    let found = first_node(alloc, &scope)?;
+    if found.is_some() {
+        return at_key(alloc, found, "nodes");
+    }
+    in_results(alloc, &scope, group)
+}
+
+fn in_group(
+    alloc: Global,
+    rule: Rule,
+    groups: &Groups<'_>,
+    number: usize,
+    group: &Group,
+) -> Result<Option<VecDeque<Step>>, Memory>
+    ensures { IfOk result (λ place. option_map place_of place
+        ≡ walk.in_group (breaks rule) (map group_of groups.now.list.now) number (group_of group.now)) }
+{
+    if name_breaks(rule, &groups.names, number, &group.name) {
+        return Ok(here(alloc));
+    }
+    in_parts(alloc, rule, groups, number, group)
+}
+
+fn first_group(
+    alloc: Global,
+    rule: Rule,
+    groups: &Groups<'_>,
+) -> Result<Option<VecDeque<Step>>, Memory>
+    ensures { IfOk result (λ place. option_map place_of place
+        ≡ walk.first_group (breaks rule) (map group_of groups.now.list.now) 0 (map group_of groups.now.list.now)) }
+{
+    let mut number: usize = 0;
+    for group in groups.list {
+        let found = in_group(alloc, rule, groups, number, group)?;
+        if found.is_some() {
+            return at_number(found, number);
+        }
+        number += 1;
+    }
+    Ok(None)
+}
+
+/// The first place in the tree's own list of nodes and in what the tree gives out.
+fn in_body<'s>(
+    alloc: Global,
+    rule: Rule,
+    tree: &'s Tree,
+    groups: &'s Groups<'s>,
+) -> Result<Option<VecDeque<Step>>, Memory>
+    requires { groups.now.list.now ≡ tree.now.groups.items }
+    ensures { IfOk result (λ place. option_map place_of place ≡ in_body (breaks rule) (tree_of tree.now)) }
+{
+    let above = groups.list.len();
+    let scope = Scope::new(alloc, rule, &tree.nodes, Entries::Tree, groups, above)?;
+    let found = first_node(alloc, &scope)?;
+    if found.is_some() {
+        return at_key(alloc, found, "nodes");
+    }
+    match &tree.output {
+        Some(input) => {
+            let shape = Some(single(SocketKind::Geometry));
+            let found = in_input(alloc, &scope, shape, input)?;
+            at_key(alloc, found, "output")
+        }
+        None => Ok(None),
+    }
+}
+
+/// The first place where the tree breaks the rule.
+pub(crate) fn in_tree(
+    alloc: Global,
+    rule: Rule,
+    tree: &Tree,
+    groups: &Groups<'_>,
+) -> Result<Option<VecDeque<Step>>, Memory>
+    requires { groups.now.list.now ≡ tree.now.groups.items }
+    ensures { IfOk result (λ place. option_map place_of place ≡ walk.first_of_rule (tree_of tree.now) rule) }
+{
+    let found = first_group(alloc, rule, groups)?;
+    if found.is_some() {
+        return at_key(alloc, found, "groups");
+    }
+    if tree_breaks(rule, groups, tree) {
+        return at_key(alloc, here(alloc), "nodes");
+    }
+    in_body(alloc, rule, &*tree, &*groups)
+}
