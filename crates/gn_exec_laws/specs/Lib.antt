@@ -1,0 +1,7 @@
+pub mod Paths
+pub mod Meanings
+pub mod Graphs
+pub mod Fits
+pub mod Machine
+pub mod Claims
+pub mod Tasks

@@ -1,0 +1,16 @@
+//! The machine of the executor, and its laws over every order of events.
+//!
+//! Workers take nodes of a graph, run them and hand in what they give, and zones add the nodes of
+//! their turns as they are opened. The machine says what each event leaves and which may come next,
+//! with no word of marks, counters or threads. The laws hold for every list of events that may come:
+//! what is set is right, only what is demanded is run, and nothing is run twice. They are stated for
+//! every set of nodes whose meanings keep a few rules. The crate holds definitions and laws alone,
+//! and stands on `gn_lazy`.
+#![tactic(auto)]
+
+pub mod laws;
+
+pub use laws::NodeMeanings;
+
+#[cfg(test)]
+mod tests;
