@@ -15,7 +15,7 @@ use Rattle.gn_tree.specs.declared.tree.Setting.{Setting}
 use Rattle.gn_tree.specs.declared.tree.Setting.TheVariants as s
 use Rattle.gn_tree.specs.declared.tree.Zone.{Zone}
 use Rattle.gn_tree.specs.declared.tree.Group.{Group as CodeGroup}
-use Rattle.gn_rules.specs.declared.rule.Rule.{Rule}
+use Rattle.gn_rules.specs.declared.sought.Sought.{Sought}
 use Rattle.gn_rules.specs.Scopes.{Scope, tree_entries, tree_scope, zone_scope, group_scope}
 use Rattle.gn_rules.specs.declared.shape.Shape.{Shape}
 use Rattle.gn_rules.specs.Things.{all_nodes}
@@ -62,21 +62,21 @@ in_last k found last r e i = is_same r (joined k (option_map place_of found) Non
 pub size_of_node : (n : Node) → node_size n ≡ suc (settings_size (settings_in n))
 size_of_node (node id kind set inputs) = refl
 
-node_way_at : (r : Rule) (sc : Scope) (i : ℕ) (n : Node) → breaks_node r sc i n ≡ false
-    → in_node (breaks r) sc i n ≡ joined (key (codes "in")) (in_inputs_of_node (breaks r) sc n) (joined (key (codes "set")) (in_settings (breaks r) sc (settings_in n)) None)
-node_way_at r sc i (node id kind set inputs) e = rw e
+node_way_at : (w : Sought) (sc : Scope) (i : ℕ) (n : Node) → breaks_node w sc i n ≡ false
+    → in_node (breaks w) sc i n ≡ joined (key (codes "in")) (in_inputs_of_node (breaks w) sc n) (joined (key (codes "set")) (in_settings (breaks w) sc (settings_in n)) None)
+node_way_at w sc i (node id kind set inputs) e = rw e
 
-pub node_way : (r : Rule) (sc : Scope) (i : ℕ) (n : Node) (b : Bool) → b ≡ breaks_node r sc i n → b ≡ false
-    → in_node (breaks r) sc i n ≡ joined (key (codes "in")) (in_inputs_of_node (breaks r) sc n) (joined (key (codes "set")) (in_settings (breaks r) sc (settings_in n)) None)
-node_way r sc i n b e f = node_way_at r sc i n (sym e ∙ f)
+pub node_way : (w : Sought) (sc : Scope) (i : ℕ) (n : Node) (b : Bool) → b ≡ breaks_node w sc i n → b ≡ false
+    → in_node (breaks w) sc i n ≡ joined (key (codes "in")) (in_inputs_of_node (breaks w) sc n) (joined (key (codes "set")) (in_settings (breaks w) sc (settings_in n)) None)
+node_way w sc i n b e f = node_way_at w sc i n (sym e ∙ f)
 
 -- ---- settings
 
-pub settings_way : (r : Rule) (sc : Scope) (x : Setting) (rest : Settings)
-    → in_settings (breaks r) sc (setting_then x rest) ≡ option_map_or (λ name. in_group_name (breaks r) sc name) (group_set x) (option_map_or (λ z. in_zone (breaks r) sc z) (zone_set x) (in_settings (breaks r) sc rest))
-settings_way r sc (s.Group name) rest = refl
-settings_way r sc (s.Zone zone) rest = refl
-settings_way r sc _ rest = refl
+pub settings_way : (w : Sought) (sc : Scope) (x : Setting) (rest : Settings)
+    → in_settings (breaks w) sc (setting_then x rest) ≡ option_map_or (λ name. in_group_name (breaks w) sc name) (group_set x) (option_map_or (λ z. in_zone (breaks w) sc z) (zone_set x) (in_settings (breaks w) sc rest))
+settings_way w sc (s.Group name) rest = refl
+settings_way w sc (s.Zone zone) rest = refl
+settings_way w sc _ rest = refl
 
 no_group : (x : Setting) (z : Zone) → zone_set x ≡ Some z → group_set x ≡ None
 no_group (s.Group name) z e = absurd (cc)
@@ -84,13 +84,13 @@ no_group (s.Zone zone) z e = refl
 no_group _ z e = refl
 
 -- where the next setting is a zone
-pub zone_next : (r : Rule) (sc : Scope) (xs : List Setting) (i : ℕ) (x : Setting) (z : Zone) → i < length xs → x ≡ get_or xs i x → zone_set x ≡ Some z → in_settings (breaks r) sc (settings_of (drop i xs)) ≡ in_zone (breaks r) sc z
-zone_next r sc xs i x z h e f =
-    ap (λ ys. in_settings (breaks r) sc (settings_of ys)) (drop_more xs i x h)
-    ∙ (ap (λ y. in_settings (breaks r) sc (setting_then y (settings_of (drop (i + 1) xs)))) (sym e)
-    ∙ (settings_way r sc x (settings_of (drop (i + 1) xs))
-    ∙ (ap (λ o. option_map_or (λ name. in_group_name (breaks r) sc name) o (option_map_or (λ y. in_zone (breaks r) sc y) (zone_set x) (in_settings (breaks r) sc (settings_of (drop (i + 1) xs))))) (no_group x z f)
-    ∙ ap (λ o. option_map_or (λ y. in_zone (breaks r) sc y) o (in_settings (breaks r) sc (settings_of (drop (i + 1) xs)))) f)))
+pub zone_next : (w : Sought) (sc : Scope) (xs : List Setting) (i : ℕ) (x : Setting) (z : Zone) → i < length xs → x ≡ get_or xs i x → zone_set x ≡ Some z → in_settings (breaks w) sc (settings_of (drop i xs)) ≡ in_zone (breaks w) sc z
+zone_next w sc xs i x z h e f =
+    ap (λ ys. in_settings (breaks w) sc (settings_of ys)) (drop_more xs i x h)
+    ∙ (ap (λ y. in_settings (breaks w) sc (setting_then y (settings_of (drop (i + 1) xs)))) (sym e)
+    ∙ (settings_way w sc x (settings_of (drop (i + 1) xs))
+    ∙ (ap (λ o. option_map_or (λ name. in_group_name (breaks w) sc name) o (option_map_or (λ y. in_zone (breaks w) sc y) (zone_set x) (in_settings (breaks w) sc (settings_of (drop (i + 1) xs))))) (no_group x z f)
+    ∙ ap (λ o. option_map_or (λ y. in_zone (breaks w) sc y) o (in_settings (breaks w) sc (settings_of (drop (i + 1) xs)))) f)))
 
 pub zone_smaller : (x : Setting) (z : Zone) → zone_set x ≡ Some z → nodes_size (nodes_of z.nodes.items) < settings_size (setting_then x no_settings)
 zone_smaller (s.Zone y) z e =
@@ -100,35 +100,35 @@ zone_smaller _ z e = absurd (cc)
 
 -- ---- zones
 
-pub zone_way : (r : Rule) (sc : Scope) (z : Zone) (items : List Socket) (inner : Scope) (nodes : Nodes) → items ≡ map socket_of z.items.items → inner ≡ zone_scope sc items (nodes_of z.nodes.items) → nodes ≡ nodes_of z.nodes.items
-    → in_zone (breaks r) sc z
-    ≡ joined (key (codes "items")) (in_sockets (breaks r) items)
-    (joined (key (codes "nodes")) (first_node (breaks r) inner 0 nodes) (joined (key (codes "output")) (in_given_out (breaks r) inner items (map named_of z.output.items)) None))
-zone_way r sc z items inner nodes e f g = rw (f, g, e) refl
+pub zone_way : (w : Sought) (sc : Scope) (z : Zone) (items : List Socket) (inner : Scope) (nodes : Nodes) → items ≡ map socket_of z.items.items → inner ≡ zone_scope sc items (nodes_of z.nodes.items) → nodes ≡ nodes_of z.nodes.items
+    → in_zone (breaks w) sc z
+    ≡ joined (key (codes "items")) (in_sockets (breaks w) items)
+    (joined (key (codes "nodes")) (first_node (breaks w) inner 0 nodes) (joined (key (codes "output")) (in_given_out (breaks w) inner items (map named_of z.output.items)) None))
+zone_way w sc z items inner nodes e f g = rw (f, g, e) refl
 
 -- what is found in the nodes, and in what the body gives out, by the scope that the code has
-pub nodes_way : (r q : Rule) (one other : Scope) (ms ns : Nodes) → q ≡ r → one ≡ other → ms ≡ ns → first_node (breaks q) one 0 ms ≡ first_node (breaks r) other 0 ns
-nodes_way r q one other ms ns e f g = rw (e, f, g) refl
+pub nodes_way : (w v : Sought) (one other : Scope) (ms ns : Nodes) → v ≡ w → one ≡ other → ms ≡ ns → first_node (breaks v) one 0 ms ≡ first_node (breaks w) other 0 ns
+nodes_way w v one other ms ns e f g = rw (e, f, g) refl
 
-pub inputs_way : (r : Rule) (sc : Scope) (n : Node) (ds : List Declared) (xs : List Named) → ds ≡ inputs_of sc.groups n → xs ≡ inputs_in n → first_input (breaks r) sc ds xs ≡ in_inputs_of_node (breaks r) sc n
-inputs_way r sc n ds xs e f = rw (e, f) refl
+pub inputs_way : (w : Sought) (sc : Scope) (n : Node) (ds : List Declared) (xs : List Named) → ds ≡ inputs_of sc.groups n → xs ≡ inputs_in n → first_input (breaks w) sc ds xs ≡ in_inputs_of_node (breaks w) sc n
+inputs_way w sc n ds xs e f = rw (e, f) refl
 
 -- ---- groups
 
-pub group_next : (r : Rule) (all : List Group) (xs : List CodeGroup) (i : ℕ) (x : CodeGroup) → i < length xs → x ≡ get_or xs i x
-    → first_group (breaks r) all i (map group_of (drop i xs)) ≡ joined (index i) (in_group (breaks r) all i (group_of x)) (first_group (breaks r) all (i + 1) (map group_of (drop (i + 1) xs)))
-group_next r all xs i x h e =
+pub group_next : (w : Sought) (all : List Group) (xs : List CodeGroup) (i : ℕ) (x : CodeGroup) → i < length xs → x ≡ get_or xs i x
+    → first_group (breaks w) all i (map group_of (drop i xs)) ≡ joined (index i) (in_group (breaks w) all i (group_of x)) (first_group (breaks w) all (i + 1) (map group_of (drop (i + 1) xs)))
+group_next w all xs i x h e =
     let more : suc i ≡ i + 1 = omega arith in
-    ap (λ ys. first_group (breaks r) all i (map group_of ys)) (drop_more xs i x h)
-    ∙ (ap (λ y. joined (index i) (in_group (breaks r) all i (group_of y)) (first_group (breaks r) all (suc i) (map group_of (drop (i + 1) xs)))) (sym e)
-    ∙ ap (λ n. joined (index i) (in_group (breaks r) all i (group_of x)) (first_group (breaks r) all n (map group_of (drop (i + 1) xs)))) more)
+    ap (λ ys. first_group (breaks w) all i (map group_of ys)) (drop_more xs i x h)
+    ∙ (ap (λ y. joined (index i) (in_group (breaks w) all i (group_of y)) (first_group (breaks w) all (suc i) (map group_of (drop (i + 1) xs)))) (sym e)
+    ∙ ap (λ n. joined (index i) (in_group (breaks w) all i (group_of x)) (first_group (breaks w) all n (map group_of (drop (i + 1) xs)))) more)
 
 -- the rest where nothing was found
 pub rest_alone : (k : Step) (found : Found) (first rest : Option Place) → is_some found ≡ false → option_map place_of found ≡ first → joined k first rest ≡ rest
 rest_alone k found first rest h e = ap (λ x. joined k x rest) (sym e) ∙ sym (next_goes k found rest h)
 
-pub results_way : (r q : Rule) (sc : Scope) (outs : List Socket) (xs : List Named) (found : Option Place) → q ≡ r → found ≡ in_given_out (breaks q) sc outs xs → found ≡ in_given_out (breaks r) sc outs xs
-results_way r q sc outs xs found e f = f ∙ ap (λ p. in_given_out (breaks p) sc outs xs) e
+pub results_way : (w v : Sought) (sc : Scope) (outs : List Socket) (xs : List Named) (found : Option Place) → v ≡ w → found ≡ in_given_out (breaks v) sc outs xs → found ≡ in_given_out (breaks w) sc outs xs
+results_way w v sc outs xs found e f = f ∙ ap (λ p. in_given_out (breaks p) sc outs xs) e
 
 pub scope_way : (gs : List Group) (i : ℕ) (g : Group) (inputs : List Socket) (sc : Scope) → inputs ≡ g.inputs → sc ≡ record { nodes = g.nodes; entries = map one_of inputs; groups = gs; above = i } → sc ≡ group_scope gs i g
 scope_way gs i g inputs sc e f = f ∙ ap (λ xs. record { nodes = g.nodes; entries = map one_of xs; groups = gs; above = i }) e
@@ -140,17 +140,17 @@ tree_scope_way t gs a sc e n f =
     f ∙ (ap (λ m. record { nodes = t.nodes; entries = tree_entries; groups = gs; above = m }) n
     ∙ ap (λ xs. record { nodes = t.nodes; entries = tree_entries; groups = xs; above = length xs }) e)
 
-abbrev pub own_nodes : Rule → Tree → Option Place
-own_nodes r t = joined (key (codes "nodes")) (this_or (breaks r) (all_nodes t) (first_node (breaks r) (tree_scope t) 0 t.nodes)) (in_output (breaks r) (tree_scope t) t.output)
+abbrev pub own_nodes : Sought → Tree → Option Place
+own_nodes w t = joined (key (codes "nodes")) (this_or (breaks w) (all_nodes t) (first_node (breaks w) (tree_scope t) 0 t.nodes)) (in_output (breaks w) (tree_scope t) t.output)
 
-pub own_nodes_break : (r : Rule) (t : Tree) (found : Found) → breaks_all r t ≡ true → option_map place_of found ≡ Some [] → joined (key (codes "nodes")) (option_map place_of found) None ≡ own_nodes r t
-own_nodes_break r t found e f = ap (λ x. joined (key (codes "nodes")) x None) f ∙ sym (rw e)
+pub own_nodes_break : (w : Sought) (t : Tree) (found : Found) → breaks_all w t ≡ true → option_map place_of found ≡ Some [] → joined (key (codes "nodes")) (option_map place_of found) None ≡ own_nodes w t
+own_nodes_break w t found e f = ap (λ x. joined (key (codes "nodes")) x None) f ∙ sym (rw e)
 
-pub own_nodes_keep : (r : Rule) (t : Tree) → breaks_all r t ≡ false → in_body (breaks r) t ≡ own_nodes r t
-own_nodes_keep r t e = sym (rw e)
+pub own_nodes_keep : (w : Sought) (t : Tree) → breaks_all w t ≡ false → in_body (breaks w) t ≡ own_nodes w t
+own_nodes_keep w t e = sym (rw e)
 
-pub groups_way : (r : Rule) (gs hs : List Group) → gs ≡ hs → first_group (breaks r) gs 0 gs ≡ first_group (breaks r) hs 0 hs
-groups_way r gs hs e = ap (λ xs. first_group (breaks r) xs 0 xs) e
+pub groups_way : (w : Sought) (gs hs : List Group) → gs ≡ hs → first_group (breaks w) gs 0 gs ≡ first_group (breaks w) hs 0 hs
+groups_way w gs hs e = ap (λ xs. first_group (breaks w) xs 0 xs) e
 
-pub output_way : (r q : Rule) (one other : Scope) (shape there : Option Shape) (x : Input) → q ≡ r → one ≡ other → shape ≡ there → in_input (breaks q) one shape x ≡ in_input (breaks r) other there x
-output_way r q one other shape there x e f g = rw (e, f, g) refl
+pub output_way : (w v : Sought) (one other : Scope) (shape there : Option Shape) (x : Input) → v ≡ w → one ≡ other → shape ≡ there → in_input (breaks v) one shape x ≡ in_input (breaks w) other there x
+output_way w v one other shape there x e f g = rw (e, f, g) refl

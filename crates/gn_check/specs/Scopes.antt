@@ -1,11 +1,12 @@
 -- Scopes of the code as those of the rules.
-use Rattle.std.specs.Prelude.{List, [], ◌++◌, map}
+use Rattle.std.specs.Prelude.{List, [], ◌++◌, map, if◌then◌else◌}
 use Rattle.gn_kinds.specs.Seen.{input_of as row_of}
 use Rattle.gn_cycle.specs.Graph as cycle
 use Rattle.gn_tree.specs.Trees as t
 use Rattle.gn_tree.specs.Seen.{socket_of}
-use Rattle.gn_rules.specs.declared.rule.Rule.{Rule}
-use Rattle.gn_rules.specs.declared.rule.Rule.TheVariants as rule
+use Rattle.gn_rules.specs.declared.rule.Rule.TheVariants.{Order}
+use Rattle.gn_rules.specs.declared.sought.Sought.{Sought}
+use Rattle.gn_rules.specs.Sought.{has}
 use Rattle.gn_rules.specs.Sockets.{Declared, one_of, input_of_row, items_in}
 use Rattle.gn_rules.specs.Scopes.{tree_entries, zone_entries}
 use Rattle.gn_rules.specs.Rules.{graph_of}
@@ -25,7 +26,6 @@ declared_by x = map (input_of_row x.chosen) (map row_of x.rows.now) ++ map one_o
 abbrev pub items_of_node : t.Node → List t.Socket
 items_of_node n = items_in (settings_in n)
 
--- the graph that the rule looks at
-abbrev pub graph_for : Rule → t.Nodes → cycle.Graph
-graph_for rule.Order nodes = graph_of nodes
-graph_for _ nodes = []
+-- the graph that the rule on order looks at
+abbrev pub graph_for : Sought → t.Nodes → cycle.Graph
+graph_for w nodes = if has w Order then graph_of nodes else []

@@ -1,10 +1,11 @@
-ghost use Rattle.std.specs.Prelude.{◌≡◌, IfOk, map, false, nat_lt};
+ghost use Rattle.std.specs.Prelude.{◌≡◌, ◌||◌, IfOk, IsTrue, map, false, is_none, nat_lt};
 ghost use Rattle.std.specs.Option.{option_map_or};
 ghost use Rattle.gn_cycle.specs.Ways.{is_on_cycle};
 ghost use Rattle.gn_rules.specs.declared.rule.Rule.TheVariants as named;
 ghost use Rattle.std.specs.List.{list_any};
 ghost use Rattle.gn_tree.specs.Seen.{input_of, link_of, tree_of};
 ghost use Rattle.gn_rules.specs.Rules as rules;
+ghost use Rattle.gn_rules.specs.Sought.{has};
 ghost use Rattle.gn_rules.specs.Walk as walk;
 ghost use Rattle.gn_check.specs.Seen.{scope_of};
 
@@ -15,7 +16,7 @@ use crate::setting::is_zone;
 use gn_kinds::SocketKind;
 use gn_memory::Memory;
 use gn_names::Names;
-use gn_rules::{Rule, Shape};
+use gn_rules::{Rule, Shape, Sought};
 use gn_tree::{Node, Tree, TreeInput, TreeLink};
 use gn_value::Value;
 use std::alloc::Global;
@@ -23,16 +24,7 @@ use std::alloc::Global;
 fn is_reserved(name: &str) -> bool
     ensures { result ≡ rules.is_reserved name.now }
 {
-    if name == "input" {
-        return true;
-    }
-    if name == "output" {
-        return true;
-    }
-    if name == "iteration" {
-        return true;
-    }
-    name == "iterations"
+    name == "input" || name == "output" || name == "iteration" || name == "iterations"
 }
 
 fn is_earlier(names: &Names<'_>, number: usize, name: &str) -> bool
@@ -47,37 +39,28 @@ fn is_earlier(names: &Names<'_>, number: usize, name: &str) -> bool
 fn is_taken(names: &Names<'_>, number: usize, name: &str) -> bool
     ensures { result ≡ rules.is_taken names.now number name.now }
 {
-    is_reserved(name) | is_earlier(names, number, name)
+    is_reserved(name) || is_earlier(names, number, name)
 }
 
-/// Whether the name with that number breaks the rule in its list.
-pub(crate) fn name_breaks(rule: Rule, names: &Names<'_>, number: usize, name: &str) -> bool
-    ensures { result ≡ walk.breaks_name rule names.now number name.now }
+/// Whether the name with that number breaks a rule in its list.
+pub(crate) fn name_breaks(sought: Sought, names: &Names<'_>, number: usize, name: &str) -> bool
+    ensures { result ≡ walk.breaks_name sought names.now number name.now }
 {
-    match rule {
-        Rule::Names => is_taken(names, number, name),
-        _ => false,
-    }
+    sought.has(Rule::Names) && is_taken(names, number, name)
 }
 
-/// Whether a link in an array of links breaks the rule by itself.
+/// Whether a link in an array of links breaks a rule by itself.
 pub(crate) fn link_breaks(scope: &Scope<'_>, link: &TreeLink) -> bool
-    ensures { result ≡ walk.breaks_link scope.now.rule (scope_of scope.now) (link_of link.now) }
+    ensures { result ≡ walk.breaks_link scope.now.sought (scope_of scope.now) (link_of link.now) }
 {
-    match scope.rule {
-        Rule::Links => scope.source(link).is_none(),
-        _ => false,
-    }
+    scope.sought.has(Rule::Links) && scope.source(link).is_none()
 }
 
-/// Whether the name of a group breaks the rule.
+/// Whether the name of a group breaks a rule.
 pub(crate) fn group_name_breaks(scope: &Scope<'_>, name: &str) -> bool
-    ensures { result ≡ walk.breaks_group_name scope.now.rule (scope_of scope.now) name.now }
+    ensures { result ≡ walk.breaks_group_name scope.now.sought (scope_of scope.now) name.now }
 {
-    match scope.rule {
-        Rule::Links => !scope.is_above(name),
-        _ => false,
-    }
+    scope.sought.has(Rule::Links) && !scope.is_above(name)
 }
 
 fn is_loose(scope: &Scope<'_>, input: &TreeInput) -> bool
@@ -148,7 +131,7 @@ fn is_unfit(scope: &Scope<'_>, shape: Shape, input: &TreeInput) -> bool
     match input {
         TreeInput::Constant { value } => !is_of(shape.kind, value),
         TreeInput::Link { link } => link_clashes(scope, shape.kind, link),
-        TreeInput::Links { links } => !shape.many | any_clashes(scope, shape.kind, links),
+        TreeInput::Links { links } => !shape.many || any_clashes(scope, shape.kind, links),
     }
 }
 
@@ -161,51 +144,63 @@ fn is_unfit_for(scope: &Scope<'_>, shape: Option<Shape>, input: &TreeInput) -> b
     }
 }
 
-/// Whether the input breaks the rule by itself, at a socket that carries this, if there is one.
-pub(crate) fn input_breaks(scope: &Scope<'_>, shape: Option<Shape>, input: &TreeInput) -> bool
-    ensures { result ≡ walk.breaks_input scope.now.rule (scope_of scope.now) shape (input_of input.now) }
+fn has_no_source(scope: &Scope<'_>, shape: Option<Shape>, input: &TreeInput) -> bool
+    ensures { result ≡ (is_none shape || rules.is_loose (scope_of scope.now) (input_of input.now)) }
 {
-    match scope.rule {
-        Rule::Links => shape.is_none() | is_loose(scope, input),
-        Rule::Kinds => is_unfit_for(scope, shape, input),
-        _ => false,
+    shape.is_none() || is_loose(scope, input)
+}
+
+/// Whether the input breaks a rule by itself, at a socket that carries this, if there is one.
+pub(crate) fn input_breaks(scope: &Scope<'_>, shape: Option<Shape>, input: &TreeInput) -> bool
+    ensures { result ≡ walk.breaks_input scope.now.sought (scope_of scope.now) shape (input_of input.now) }
+{
+    if scope.sought.has(Rule::Links) && has_no_source(scope, shape, input) {
+        return true;
     }
+    scope.sought.has(Rule::Kinds) && is_unfit_for(scope, shape, input)
 }
 
 /// Whether the node is a zone higher than 2.
 fn is_too_high(scope: &Scope<'_>, node: &Node) -> bool
     ensures { result ≡ rules.is_too_high (scope_of scope.now) node.now }
 {
+    if !is_zone(settings_of(node)) {
+        return false;
+    }
     let above = Known {
         names: &scope.groups.names,
         numbers: scope.groups.heights.as_slice(),
         above: scope.above,
     };
-    is_zone(settings_of(node)) & (2 < height(&above, node))
+    2 < height(&above, node)
 }
 
 fn is_on_cycle(alloc: Global, scope: &Scope<'_>, number: usize) -> Result<bool, Memory>
-    requires { scope.now.rule ≡ named.Order }
+    requires { IsTrue (has scope.now.sought named.Order) }
     ensures { IfOk result (λ found. found ≡ is_on_cycle (rules.graph_of (scope_of scope.now).nodes) number) }
 {
     scope.graph.is_on_cycle(alloc, number)
 }
 
-/// Whether the node with that number breaks the rule by itself.
+/// Whether the node with that number breaks a rule by itself.
 pub(crate) fn node_breaks(
     alloc: Global,
     scope: &Scope<'_>,
     number: usize,
     node: &Node,
 ) -> Result<bool, Memory>
-    ensures { IfOk result (λ found. found ≡ walk.breaks_node scope.now.rule (scope_of scope.now) number node.now) }
+    ensures { IfOk result (λ found. found ≡ walk.breaks_node scope.now.sought (scope_of scope.now) number node.now) }
 {
-    match scope.rule {
-        Rule::Names => Ok(is_taken(&scope.ids, number, id_of(node))),
-        Rule::Order => is_on_cycle(alloc, scope, number),
-        Rule::Height => Ok(is_too_high(scope, node)),
-        _ => Ok(false),
+    if scope.sought.has(Rule::Names) && is_taken(&scope.ids, number, id_of(node)) {
+        return Ok(true);
     }
+    if scope.sought.has(Rule::Height) && is_too_high(scope, node) {
+        return Ok(true);
+    }
+    if scope.sought.has(Rule::Order) {
+        return is_on_cycle(alloc, scope, number);
+    }
+    Ok(false)
 }
 
 /// Whether the tree has more than 16,384 nodes.
@@ -221,13 +216,10 @@ fn has_too_many(groups: &Groups<'_>, tree: &Tree) -> bool
     16_384 < counts(&all, &tree.nodes)
 }
 
-/// Whether the tree's own list of nodes breaks the rule by itself.
-pub(crate) fn tree_breaks(rule: Rule, groups: &Groups<'_>, tree: &Tree) -> bool
+/// Whether the tree's own list of nodes breaks a rule by itself.
+pub(crate) fn tree_breaks(sought: Sought, groups: &Groups<'_>, tree: &Tree) -> bool
     requires { groups.now.list.now ≡ tree.now.groups.items }
-    ensures { result ≡ walk.breaks_all rule (tree_of tree.now) }
+    ensures { result ≡ walk.breaks_all sought (tree_of tree.now) }
 {
-    match rule {
-        Rule::Count => has_too_many(groups, tree),
-        _ => false,
-    }
+    sought.has(Rule::Count) && has_too_many(groups, tree)
 }

@@ -12,7 +12,7 @@ use crate::groups::Groups;
 use crate::walk::in_tree;
 use gn_memory::Memory;
 use gn_places::{Step, place_text};
-use gn_rules::Rule;
+use gn_rules::{Rule, Sought};
 use gn_tree::Tree;
 use std::alloc::Global;
 use std::collections::VecDeque;
@@ -38,7 +38,7 @@ fn first_of(
     ensures { IfOk result (λ found. option_map (λ x. (x.0, place_of x.1)) found ≡ walk.named_from (tree_of tree.now) rules.now) }
 {
     for rule in rules {
-        if let Some(place) = in_tree(alloc, *rule, tree, groups)? {
+        if let Some(place) = in_tree(alloc, Sought::Only(*rule), tree, groups)? {
             return Ok(Some((*rule, place)));
         }
     }
@@ -50,7 +50,11 @@ fn first_broken(alloc: Global, tree: &Tree) -> Result<Option<(Rule, VecDeque<Ste
     ensures { IfOk result (λ found. option_map (λ x. (x.0, place_of x.1)) found ≡ walk.named (tree_of tree.now)) }
 {
     let groups = Groups::new(alloc, &tree.groups)?;
-    first_of(alloc, tree, &groups, &RULES)
+    let found = in_tree(alloc, Sought::Any, tree, &groups)?;
+    if found.is_some() {
+        return first_of(alloc, tree, &groups, &RULES);
+    }
+    Ok(None)
 }
 
 /// The tree, or the number and the place of the rule that was found.

@@ -1,10 +1,11 @@
 //! The check of a tree by the rules F2 to F7.
 //!
 //! `check` promises the least rule that a tree breaks with the first place where it does, or a
-//! `GoodTree`, which keeps all of them. It goes through the tree rule by rule, and looks names up in
-//! maps that it makes once for each list: no link and no key costs a walk over a list. Heights and
-//! numbers of nodes are found group by group, each once. It stands on the rules of `gn_rules`, on
-//! the trees of `gn_tree`, and on the look-ups of `gn_names` and the search of `gn_cycle`.
+//! `GoodTree`, which keeps all of them. It goes through the tree once with all rules, and again rule by
+//! rule only where one is broken. Names are looked up in a map that is made for each list: no link and
+//! no key costs a walk over a list. Heights and numbers of nodes are found group by group, each once.
+//! It stands on the rules of `gn_rules`, on the trees of `gn_tree`, and on the look-ups of `gn_names`
+//! and the search of `gn_cycle`.
 #![tactic(auto)]
 
 mod broken;

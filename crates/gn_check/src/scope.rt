@@ -16,7 +16,7 @@ use gn_cycle::Graph;
 use gn_kinds::{InputRow, SocketKind};
 use gn_memory::Memory;
 use gn_names::Names;
-use gn_rules::{Rule, Shape};
+use gn_rules::{Rule, Shape, Sought};
 use gn_tree::{Node, Setting, TreeInput, TreeLink};
 use std::alloc::Global;
 
@@ -39,10 +39,11 @@ pub(crate) struct Inputs<'s> {
     pub(crate) others: &'s Sockets<'s>,
 }
 
-/// A list of nodes, with what the links in it may name, and with what the rule looks at.
+/// A list of nodes, with what the links in it may name, and with what the rules look at.
 #[derive(Drop)]
 pub(crate) struct Scope<'s> {
-    pub(crate) rule: Rule,
+    /// The rules that are looked for.
+    pub(crate) sought: Sought,
     pub(crate) nodes: &'s Vec<Node>,
     pub(crate) ids: Names<'s>,
     /// For each node the items of its zone.
@@ -55,7 +56,7 @@ pub(crate) struct Scope<'s> {
     pub(crate) above: usize,
     ghost with_ids: { ids ≡ named.ids (nodes_of nodes.now.items) },
     ghost with_items: { lists_in items.items ≡ map items_of_node nodes.now.items },
-    ghost with_graph: { graph ≡ spec.graph_for rule (nodes_of nodes.now.items) },
+    ghost with_graph: { graph ≡ spec.graph_for sought (nodes_of nodes.now.items) },
 }
 
 pub(crate) fn id_of(node: &Node) -> &str
@@ -111,18 +112,21 @@ fn all_items(alloc: Global, nodes: &[Node]) -> Result<Vec<Sockets<'_>>, Memory>
     Ok(items)
 }
 
-/// The graph of the nodes for the rule on order, and an empty one for others.
-fn graph_for(alloc: Global, rule: Rule, ids: &Names<'_>, nodes: &[Node]) -> Result<Graph, Memory>
+/// The graph of the nodes where the rule on order is looked for, and else an empty one.
+fn graph_for(
+    alloc: Global,
+    sought: Sought,
+    ids: &Names<'_>,
+    nodes: &[Node],
+) -> Result<Graph, Memory>
     requires { ids.now ≡ named.ids (nodes_of nodes.now) }
-    ensures { IfOk result (λ graph. graph ≡ spec.graph_for rule (nodes_of nodes.now)) }
+    ensures { IfOk result (λ graph. graph ≡ spec.graph_for sought (nodes_of nodes.now)) }
 {
-    match rule {
-        Rule::Order => {
-            let edges = edges_of(alloc, ids, nodes)?;
-            Graph::new(alloc, edges)
-        }
-        _ => Graph::new(alloc, Vec::new(alloc)),
+    if sought.has(Rule::Order) {
+        let edges = edges_of(alloc, ids, nodes)?;
+        return Graph::new(alloc, edges);
     }
+    Graph::new(alloc, Vec::new(alloc))
 }
 
 /// What the entry of that name carries.
@@ -149,10 +153,10 @@ fn find_entry(entries: Entries<'_>, name: &str) -> Option<Shape>
 impl<'s> Scope<'s> {
     ghost use Rattle.gn_check.specs.Seen.{scope_of};
 
-    /// The list of nodes as the rule looks at it.
+    /// The list of nodes as the rules look at it.
     pub(crate) fn new(
         alloc: Global,
-        rule: Rule,
+        sought: Sought,
         nodes: &'s Vec<Node>,
         entries: Entries<'s>,
         groups: &'s Groups<'s>,
@@ -160,13 +164,13 @@ impl<'s> Scope<'s> {
     ) -> Result<Scope<'s>, Memory>
         ensures seen { IfOk result (λ scope. scope_of scope
             ≡ record { nodes = nodes_of nodes.now.items; entries = entries_of entries.entry; groups = map group_of groups.now.list.now; above = above }) }
-        ensures ruled { IfOk result (λ scope. scope.rule ≡ rule) }
+        ensures looked_for { IfOk result (λ scope. scope.sought ≡ sought) }
     {
         let ids = Names::new(alloc, ids_of(alloc, nodes)?)?;
         let items = all_items(alloc, nodes)?;
-        let graph = graph_for(alloc, rule, &ids, nodes)?;
+        let graph = graph_for(alloc, sought, &ids, nodes)?;
         Ok(Scope {
-            rule,
+            sought,
             nodes,
             ids,
             items,

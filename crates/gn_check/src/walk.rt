@@ -18,7 +18,7 @@ use crate::sockets::{Sockets, single};
 use gn_kinds::SocketKind;
 use gn_memory::Memory;
 use gn_places::Step;
-use gn_rules::{Rule, Shape};
+use gn_rules::{Shape, Sought};
 use gn_tree::{Group, Node, Setting, Tree, TreeInput, TreeLink, Zone};
 use std::alloc::Global;
 use std::collections::VecDeque;
@@ -66,7 +66,7 @@ fn first_link(
     links: &[TreeLink],
 ) -> Result<Option<VecDeque<Step>>, Memory>
     ensures { IfOk result (λ place. option_map place_of place
-        ≡ walk.first_link (breaks scope.now.rule) (scope_of scope.now) 0 (map link_of links.now)) }
+        ≡ walk.first_link (breaks scope.now.sought) (scope_of scope.now) 0 (map link_of links.now)) }
 {
     let mut number: usize = 0;
     for link in links {
@@ -85,7 +85,7 @@ fn in_input(
     input: &TreeInput,
 ) -> Result<Option<VecDeque<Step>>, Memory>
     ensures { IfOk result (λ place. option_map place_of place
-        ≡ walk.in_input (breaks scope.now.rule) (scope_of scope.now) shape (input_of input.now)) }
+        ≡ walk.in_input (breaks scope.now.sought) (scope_of scope.now) shape (input_of input.now)) }
 {
     if input_breaks(scope, shape, input) {
         return Ok(here(alloc));
@@ -105,7 +105,7 @@ fn first_input(
     inputs: &[(String, TreeInput)],
 ) -> Result<Option<VecDeque<Step>>, Memory>
     ensures { IfOk result (λ place. option_map place_of place
-        ≡ walk.first_input (breaks scope.now.rule) (scope_of scope.now) (declared_by declared.now) (map named_of inputs.now)) }
+        ≡ walk.first_input (breaks scope.now.sought) (scope_of scope.now) (declared_by declared.now) (map named_of inputs.now)) }
 {
     for (name, input) in inputs {
         let found = in_input(alloc, scope, declared.find(name), input)?;
@@ -124,7 +124,7 @@ fn in_output(
     output: &[(String, TreeInput)],
 ) -> Result<Option<VecDeque<Step>>, Memory>
     ensures { IfOk result (λ place. option_map place_of place
-        ≡ walk.in_given_out (breaks scope.now.rule) (scope_of scope.now) (map socket_of sockets.now.list.now) (map named_of output.now)) }
+        ≡ walk.in_given_out (breaks scope.now.sought) (scope_of scope.now) (map socket_of sockets.now.list.now) (map named_of output.now)) }
 {
     let declared = Inputs {
         rows: &[],
@@ -136,15 +136,15 @@ fn in_output(
 
 fn in_sockets(
     alloc: Global,
-    rule: Rule,
+    sought: Sought,
     sockets: &Sockets<'_>,
 ) -> Result<Option<VecDeque<Step>>, Memory>
     ensures { IfOk result (λ place. option_map place_of place
-        ≡ walk.in_sockets (breaks rule) (map socket_of sockets.now.list.now)) }
+        ≡ walk.in_sockets (breaks sought) (map socket_of sockets.now.list.now)) }
 {
     let mut number: usize = 0;
     for socket in sockets.list {
-        if name_breaks(rule, &sockets.names, number, &socket.name) {
+        if name_breaks(sought, &sockets.names, number, &socket.name) {
             return at_number(here(alloc), number);
         }
         number += 1;
@@ -158,7 +158,7 @@ fn in_group_name(
     name: &str,
 ) -> Result<Option<VecDeque<Step>>, Memory>
     ensures { IfOk result (λ place. option_map place_of place
-        ≡ walk.in_group_name (breaks scope.now.rule) (scope_of scope.now) name.now) }
+        ≡ walk.in_group_name (breaks scope.now.sought) (scope_of scope.now) name.now) }
 {
     if group_name_breaks(scope, name) {
         return at_key(alloc, here(alloc), "group");
@@ -170,7 +170,7 @@ fn in_group_name(
 #[cycle(walk)]
 fn first_node(alloc: Global, scope: &Scope<'_>) -> Result<Option<VecDeque<Step>>, Memory>
     ensures { IfOk result (λ place. option_map place_of place
-        ≡ walk.first_node (breaks scope.now.rule) (scope_of scope.now) 0 (nodes_of scope.now.nodes.now.items)) }
+        ≡ walk.first_node (breaks scope.now.sought) (scope_of scope.now) 0 (nodes_of scope.now.nodes.now.items)) }
 {
     let mut number: usize = 0;
     for node in scope.nodes {
@@ -191,7 +191,7 @@ fn in_inputs(
     node: &Node,
 ) -> Result<Option<VecDeque<Step>>, Memory>
     requires { slice_get scope.now.nodes.now.items number ≡ Some node.now }
-    ensures { IfOk result (λ place. option_map place_of place ≡ in_inputs_of_node (breaks scope.now.rule) (scope_of scope.now) node.now) }
+    ensures { IfOk result (λ place. option_map place_of place ≡ in_inputs_of_node (breaks scope.now.sought) (scope_of scope.now) node.now) }
 {
     let declared = scope.inputs_of(number, node);
     first_input(alloc, scope, &declared, inputs_of(node))
@@ -205,7 +205,7 @@ fn in_node(
     node: &Node,
 ) -> Result<Option<VecDeque<Step>>, Memory>
     requires { slice_get scope.now.nodes.now.items number ≡ Some node.now }
-    ensures { IfOk result (λ place. option_map place_of place ≡ walk.in_node (breaks scope.now.rule) (scope_of scope.now) number node.now) }
+    ensures { IfOk result (λ place. option_map place_of place ≡ walk.in_node (breaks scope.now.sought) (scope_of scope.now) number node.now) }
 {
     if node_breaks(alloc, scope, number, node)? {
         return Ok(here(alloc));
@@ -225,7 +225,7 @@ fn in_settings(
     settings: &[Setting],
 ) -> Result<Option<VecDeque<Step>>, Memory>
     ensures { IfOk result (λ place. option_map place_of place
-        ≡ walk.in_settings (breaks scope.now.rule) (scope_of scope.now) (settings_of settings.now)) }
+        ≡ walk.in_settings (breaks scope.now.sought) (scope_of scope.now) (settings_of settings.now)) }
 {
     for setting in settings {
         if let Some(name) = group_set(setting) {
@@ -240,17 +240,17 @@ fn in_settings(
 
 #[cycle(walk)]
 fn in_zone(alloc: Global, scope: &Scope<'_>, zone: &Zone) -> Result<Option<VecDeque<Step>>, Memory>
-    ensures { IfOk result (λ place. option_map place_of place ≡ in_zone (breaks scope.now.rule) (scope_of scope.now) zone.now) }
+    ensures { IfOk result (λ place. option_map place_of place ≡ in_zone (breaks scope.now.sought) (scope_of scope.now) zone.now) }
 {
     let items = Sockets::new(alloc, &zone.items)?;
-    let found = in_sockets(alloc, scope.rule, &items)?;
+    let found = in_sockets(alloc, scope.sought, &items)?;
     if found.is_some() {
         return at_key(alloc, found, "items");
     }
     let entries = Entries::Zone(&items);
     let inner = Scope::new(
         alloc,
-        scope.rule,
+        scope.sought,
         &zone.nodes,
         entries,
         scope.groups,
@@ -270,34 +270,34 @@ fn in_results(
     scope: &Scope<'_>,
     group: &Group,
 ) -> Result<Option<VecDeque<Step>>, Memory>
-    ensures { IfOk result (λ place. option_map place_of place ≡ in_results (breaks scope.now.rule) (scope_of scope.now) (group_of group.now)) }
+    ensures { IfOk result (λ place. option_map place_of place ≡ in_results (breaks scope.now.sought) (scope_of scope.now) (group_of group.now)) }
 {
     let outputs = Sockets::new(alloc, &group.outputs)?;
     let found = in_output(alloc, scope, &outputs, &group.output)?;
     if found.is_some() {
         return at_key(alloc, found, "output");
     }
-    let found = in_sockets(alloc, scope.rule, &outputs)?;
+    let found = in_sockets(alloc, scope.sought, &outputs)?;
     at_key(alloc, found, "outputs")
 }
 
 /// The first place in the parts of the group with that number.
 fn in_parts(
     alloc: Global,
-    rule: Rule,
+    sought: Sought,
     groups: &Groups<'_>,
     number: usize,
     group: &Group,
 ) -> Result<Option<VecDeque<Step>>, Memory>
-    ensures { IfOk result (λ place. option_map place_of place ≡ in_parts (breaks rule) (map group_of groups.now.list.now) number (group_of group.now)) }
+    ensures { IfOk result (λ place. option_map place_of place ≡ in_parts (breaks sought) (map group_of groups.now.list.now) number (group_of group.now)) }
 {
     let inputs = Sockets::new(alloc, &group.inputs)?;
-    let found = in_sockets(alloc, rule, &inputs)?;
+    let found = in_sockets(alloc, sought, &inputs)?;
     if found.is_some() {
         return at_key(alloc, found, "inputs");
     }
     let entries = Entries::Group(&inputs);
-    let scope = Scope::new(alloc, rule, &group.nodes, entries, groups, number)?;
+    let scope = Scope::new(alloc, sought, &group.nodes, entries, groups, number)?;
     let found = first_node(alloc, &scope)?;
     if found.is_some() {
         return at_key(alloc, found, "nodes");
@@ -307,31 +307,31 @@ fn in_parts(
 
 fn in_group(
     alloc: Global,
-    rule: Rule,
+    sought: Sought,
     groups: &Groups<'_>,
     number: usize,
     group: &Group,
 ) -> Result<Option<VecDeque<Step>>, Memory>
     ensures { IfOk result (λ place. option_map place_of place
-        ≡ walk.in_group (breaks rule) (map group_of groups.now.list.now) number (group_of group.now)) }
+        ≡ walk.in_group (breaks sought) (map group_of groups.now.list.now) number (group_of group.now)) }
 {
-    if name_breaks(rule, &groups.names, number, &group.name) {
+    if name_breaks(sought, &groups.names, number, &group.name) {
         return Ok(here(alloc));
     }
-    in_parts(alloc, rule, groups, number, group)
+    in_parts(alloc, sought, groups, number, group)
 }
 
 fn first_group(
     alloc: Global,
-    rule: Rule,
+    sought: Sought,
     groups: &Groups<'_>,
 ) -> Result<Option<VecDeque<Step>>, Memory>
     ensures { IfOk result (λ place. option_map place_of place
-        ≡ walk.first_group (breaks rule) (map group_of groups.now.list.now) 0 (map group_of groups.now.list.now)) }
+        ≡ walk.first_group (breaks sought) (map group_of groups.now.list.now) 0 (map group_of groups.now.list.now)) }
 {
     let mut number: usize = 0;
     for group in groups.list {
-        let found = in_group(alloc, rule, groups, number, group)?;
+        let found = in_group(alloc, sought, groups, number, group)?;
         if found.is_some() {
             return at_number(found, number);
         }
@@ -343,15 +343,15 @@ fn first_group(
 /// The first place in the tree's own list of nodes and in what the tree gives out.
 fn in_body<'s>(
     alloc: Global,
-    rule: Rule,
+    sought: Sought,
     tree: &'s Tree,
     groups: &'s Groups<'s>,
 ) -> Result<Option<VecDeque<Step>>, Memory>
     requires { groups.now.list.now ≡ tree.now.groups.items }
-    ensures { IfOk result (λ place. option_map place_of place ≡ in_body (breaks rule) (tree_of tree.now)) }
+    ensures { IfOk result (λ place. option_map place_of place ≡ in_body (breaks sought) (tree_of tree.now)) }
 {
     let above = groups.list.len();
-    let scope = Scope::new(alloc, rule, &tree.nodes, Entries::Tree, groups, above)?;
+    let scope = Scope::new(alloc, sought, &tree.nodes, Entries::Tree, groups, above)?;
     let found = first_node(alloc, &scope)?;
     if found.is_some() {
         return at_key(alloc, found, "nodes");
@@ -366,22 +366,22 @@ fn in_body<'s>(
     }
 }
 
-/// The first place where the tree breaks the rule.
+/// The first place where the tree breaks one of the rules that are looked for.
 pub(crate) fn in_tree(
     alloc: Global,
-    rule: Rule,
+    sought: Sought,
     tree: &Tree,
     groups: &Groups<'_>,
 ) -> Result<Option<VecDeque<Step>>, Memory>
     requires { groups.now.list.now ≡ tree.now.groups.items }
-    ensures { IfOk result (λ place. option_map place_of place ≡ walk.first_of_rule (tree_of tree.now) rule) }
+    ensures { IfOk result (λ place. option_map place_of place ≡ walk.first_place (tree_of tree.now) sought) }
 {
-    let found = first_group(alloc, rule, groups)?;
+    let found = first_group(alloc, sought, groups)?;
     if found.is_some() {
         return at_key(alloc, found, "groups");
     }
-    if tree_breaks(rule, groups, tree) {
+    if tree_breaks(sought, groups, tree) {
         return at_key(alloc, here(alloc), "nodes");
     }
-    in_body(alloc, rule, &*tree, &*groups)
+    in_body(alloc, sought, &*tree, &*groups)
 }

@@ -1,4 +1,5 @@
 pub mod Number
+pub mod Sought
 pub mod Sockets
 pub mod Scopes
 pub mod Things

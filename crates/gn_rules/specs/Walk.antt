@@ -1,5 +1,6 @@
--- The first place where a rule is broken, as it is found by going through the tree once.
-use Rattle.std.specs.Prelude.{ℕ, suc, Bool, false, not, ◌||◌, nat_lt, is_none, List, [], ◌∷◌, map, codes, Option, Some, None, if◌then◌else◌}
+-- The first place where one of the rules that are looked for is broken, as it is found by going through the
+-- tree once.
+use Rattle.std.specs.Prelude.{ℕ, suc, Bool, false, not, ◌&&◌, ◌||◌, nat_lt, is_none, List, [], ◌∷◌, map, codes, Option, Some, None, if◌then◌else◌}
 use Rattle.std.specs.Option.{option_map_or}
 use Rattle.gn_kinds.specs.declared.row.SocketKind.TheVariants.{Geometry}
 use Rattle.gn_kinds.specs.Row.{Text}
@@ -8,50 +9,44 @@ use Rattle.gn_tree.specs.Trees.{Socket, Link, Input, constant, link, links, Name
 use Rattle.gn_cycle.specs.Ways.{is_on_cycle}
 use Rattle.gn_rules.specs.declared.rule.Rule.{Rule}
 use Rattle.gn_rules.specs.declared.rule.Rule.TheVariants as rule
+use Rattle.gn_rules.specs.declared.sought.Sought.{Sought}
+use Rattle.gn_rules.specs.declared.sought.Sought.TheVariants.{Any, Only}
+use Rattle.gn_rules.specs.Sought.{has}
 use Rattle.gn_rules.specs.declared.shape.Shape.{Shape}
 use Rattle.gn_rules.specs.Sockets.{Declared, single, one_of, declared, group_names, ids, id_of, inputs_of}
 use Rattle.gn_rules.specs.Scopes.{Scope, source, is_above, tree_scope, group_scope, zone_scope}
 use Rattle.gn_rules.specs.Things.{Thing, the_tree, the_groups, a_group, the_sockets, a_socket, all_nodes, the_nodes, a_node, the_settings, a_group_name, the_inputs, an_input, a_link, socket_names}
 use Rattle.gn_rules.specs.Rules.{is_taken, is_loose, is_unfit, graph_of, is_too_high, node_count, IsNamed, KeepsRules}
 
--- ---- does a thing break the rule by itself? By the thing first, as they are met
+-- ---- does a thing break one of the rules that are looked for by itself?
 
-abbrev pub breaks_name : Rule → List Text → ℕ → Text → Bool
-breaks_name rule.Names names i name = is_taken names i name
-breaks_name _ names i name = false
+abbrev pub breaks_name : Sought → List Text → ℕ → Text → Bool
+breaks_name w names i name = has w rule.Names && is_taken names i name
 
-abbrev pub breaks_node : Rule → Scope → ℕ → Node → Bool
-breaks_node rule.Names s i n = is_taken (ids s.nodes) i (id_of n)
-breaks_node rule.Order s i n = is_on_cycle (graph_of s.nodes) i
-breaks_node rule.Height s i n = is_too_high s n
-breaks_node _ s i n = false
+abbrev pub breaks_node : Sought → Scope → ℕ → Node → Bool
+breaks_node w s i n = (has w rule.Names && is_taken (ids s.nodes) i (id_of n)) || ((has w rule.Height && is_too_high s n) || (has w rule.Order && is_on_cycle (graph_of s.nodes) i))
 
-abbrev pub breaks_group_name : Rule → Scope → Text → Bool
-breaks_group_name rule.Links s name = not (is_above s name)
-breaks_group_name _ s name = false
+abbrev pub breaks_group_name : Sought → Scope → Text → Bool
+breaks_group_name w s name = has w rule.Links && not (is_above s name)
 
-abbrev pub breaks_input : Rule → Scope → Option Shape → Input → Bool
-breaks_input rule.Links s shape x = is_none shape || is_loose s x
-breaks_input rule.Kinds s shape x = option_map_or (λ there. is_unfit s there x) shape false
-breaks_input _ s shape x = false
+abbrev pub breaks_input : Sought → Scope → Option Shape → Input → Bool
+breaks_input w s shape x = (has w rule.Links && (is_none shape || is_loose s x)) || (has w rule.Kinds && option_map_or (λ there. is_unfit s there x) shape false)
 
-abbrev pub breaks_link : Rule → Scope → Link → Bool
-breaks_link rule.Links s l = is_none (source s l)
-breaks_link _ s l = false
+abbrev pub breaks_link : Sought → Scope → Link → Bool
+breaks_link w s l = has w rule.Links && is_none (source s l)
 
-abbrev pub breaks_all : Rule → Tree → Bool
-breaks_all rule.Count t = nat_lt 16384 (node_count t)
-breaks_all _ t = false
+abbrev pub breaks_all : Sought → Tree → Bool
+breaks_all w t = has w rule.Count && nat_lt 16384 (node_count t)
 
-abbrev pub breaks : Rule → Thing → Bool
-breaks r (a_group gs i g) = breaks_name r (group_names gs) i g.name
-breaks r (a_socket names i name) = breaks_name r names i name
-breaks r (a_node s i n) = breaks_node r s i n
-breaks r (a_group_name s name) = breaks_group_name r s name
-breaks r (an_input s shape x) = breaks_input r s shape x
-breaks r (a_link s l) = breaks_link r s l
-breaks r (all_nodes t) = breaks_all r t
-breaks r _ = false
+abbrev pub breaks : Sought → Thing → Bool
+breaks w (a_group gs i g) = breaks_name w (group_names gs) i g.name
+breaks w (a_socket names i name) = breaks_name w names i name
+breaks w (a_node s i n) = breaks_node w s i n
+breaks w (a_group_name s name) = breaks_group_name w s name
+breaks w (an_input s shape x) = breaks_input w s shape x
+breaks w (a_link s l) = breaks_link w s l
+breaks w (all_nodes t) = breaks_all w t
+breaks w _ = false
 
 -- ---- the way through the tree
 
@@ -141,8 +136,8 @@ module _ (bad : Thing → Bool) where
       (joined (key (codes "nodes")) (this_or (all_nodes t) (first_node (tree_scope t) 0 t.nodes))
       (in_output (tree_scope t) t.output)))
 
-abbrev pub first_of_rule : Tree → Rule → Option Place
-first_of_rule t r = in_tree (breaks r) t
+abbrev pub first_place : Tree → Sought → Option Place
+first_place t w = in_tree (breaks w) t
 
 -- a rule with its place, or else what comes later
 abbrev pub named_or : Rule → Option Place → Option (Rule × Place) → Option (Rule × Place)
@@ -151,14 +146,19 @@ named_or r (Some place) later = Some (r, place)
 
 abbrev pub named_from : Tree → List Rule → Option (Rule × Place)
 named_from t [] = None
-named_from t (r ∷ rs) = named_or r (first_of_rule t r) (named_from t rs)
+named_from t (r ∷ rs) = named_or r (first_place t (Only r)) (named_from t rs)
 
 -- the rules, from the least
 abbrev pub all_rules : List Rule
 all_rules = rule.Names ∷ rule.Links ∷ rule.Kinds ∷ rule.Order ∷ rule.Height ∷ rule.Count ∷ []
 
+-- the rules are gone through one by one only where a place was found at which any of them is broken
+abbrev pub named_if : Tree → Option Place → Option (Rule × Place)
+named_if t None = None
+named_if t (Some place) = named_from t all_rules
+
 abbrev pub named : Tree → Option (Rule × Place)
-named t = named_from t all_rules
+named t = named_if t (first_place t Any)
 
 -- the named rule and place are the least broken rule and its first place, and none is named only
 -- where all rules are kept

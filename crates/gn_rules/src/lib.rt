@@ -9,6 +9,8 @@
 
 mod rule;
 mod shape;
+mod sought;
 
 pub use rule::Rule;
 pub use shape::Shape;
+pub use sought::Sought;

@@ -1,11 +1,10 @@
-use Rattle.std.proofs.Common.{ap, ◌∙◌}
+use Rattle.std.proofs.Common.{[], ap, ◌∙◌, if◌then◌else◌}
 use Rattle.gn_tree.specs.Seen.{nodes_of}
 use Rattle.gn_rules.specs.Rules.{graph_of}
-use Rattle.gn_check.specs.Scopes.{graph_for}
 use Rattle.gn_check.proofs.Alike.{cycle_seen}
 use Rattle.gn_check.proofs.broken.is_on_cycle.Goals as goal
 
 pub returns : goal.returns
 returns c =
-    let nodes = nodes_of c.args.scope.now.nodes.now.items in
-    cycle_seen c.is_on_cycle.result c.args.scope.now.graph (graph_of nodes) c.args.number (c.args.scope.now.with_graph ∙ ap (λ r. graph_for r nodes) c.requires) c.is_on_cycle.ensures
+    let graph = graph_of (nodes_of c.args.scope.now.nodes.now.items) in
+    cycle_seen c.is_on_cycle.result c.args.scope.now.graph graph c.args.number (c.args.scope.now.with_graph ∙ ap (λ b. if b then graph else []) c.requires) c.is_on_cycle.ensures

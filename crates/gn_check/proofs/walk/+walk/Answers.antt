@@ -25,7 +25,7 @@ first_node-in_node-requires t c =
 
 pub in_node-returns-then-is_some : goal.in_node-returns-then-is_some
 in_node-returns-then-is_some t c =
-    let r = c.args.scope.now.rule in
+    let r = c.args.scope.now.sought in
     let sc = scope_of c.args.scope.now in
     let n = c.args.node.now in
     in_first (key (codes "in")) c.in_ok-found.found (in_inputs_of_node (breaks r) sc n) (joined (key (codes "set")) (in_settings (breaks r) sc (settings_in n)) None) (in_node (breaks r) sc c.args.number n) c.at_key.result
@@ -33,7 +33,7 @@ in_node-returns-then-is_some t c =
 
 pub in_node-returns : goal.in_node-returns
 in_node-returns t c =
-    let r = c.args.scope.now.rule in
+    let r = c.args.scope.now.sought in
     let sc = scope_of c.args.scope.now in
     let n = c.args.node.now in
     let same : option_map place_of c.in_ok-found-2.found ≡ in_settings (breaks r) sc (settings_in n) = c.in_ok-found-2.ensures ∙ ap (in_settings (breaks r) sc) c.settings_of.ensures in
@@ -55,7 +55,7 @@ in_settings-in_zone-requires t c =
 
 pub in_settings-returns-in-Some-zone_set : goal.in_settings-returns-in-Some-zone_set
 in_settings-returns-in-Some-zone_set t c =
-    let r = c.args.scope.now.rule in
+    let r = c.args.scope.now.sought in
     let sc = scope_of c.args.scope.now in
     let x = c.setting-item.result in
     let z = c.in-Some-zone_set.zone.now in
@@ -64,7 +64,7 @@ in_settings-returns-in-Some-zone_set t c =
 
 pub in_zone-returns-then-is_some : goal.in_zone-returns-then-is_some
 in_zone-returns-then-is_some t c =
-    let r = c.args.scope.now.rule in
+    let r = c.args.scope.now.sought in
     let sc = scope_of c.args.scope.now in
     let z = c.args.zone.now in
     let sockets = map socket_of c.in_ok-items.items.list.now in
@@ -76,7 +76,7 @@ in_zone-returns-then-is_some t c =
 
 pub in_zone-returns-then-is_some-2 : goal.in_zone-returns-then-is_some-2
 in_zone-returns-then-is_some-2 t c =
-    let r = c.args.scope.now.rule in
+    let r = c.args.scope.now.sought in
     let sc = scope_of c.args.scope.now in
     let z = c.args.zone.now in
     let sockets = map socket_of c.in_ok-items.items.list.now in
@@ -86,14 +86,14 @@ in_zone-returns-then-is_some-2 t c =
     let rest = joined (key (codes "nodes")) (first_node (breaks r) inner 0 nodes) last in
     let same = ap (map socket_of) (c.in_ok-items.ensures ∙ c.deref.ensures.value) in
     let way = zone_way r sc z sockets inner nodes same c.in_ok-inner.ensures.seen (ap (λ s. s.nodes) c.in_ok-inner.ensures.seen) in
-    let found : option_map place_of c.in_ok-found-2.found ≡ first_node (breaks r) inner 0 nodes = c.in_ok-found-2.ensures ∙ nodes_way r c.in_ok-inner.inner.rule inner inner nodes nodes c.in_ok-inner.ensures.ruled (λ _. inner) (λ _. nodes) in
+    let found : option_map place_of c.in_ok-found-2.found ≡ first_node (breaks r) inner 0 nodes = c.in_ok-found-2.ensures ∙ nodes_way r c.in_ok-inner.inner.sought inner inner nodes nodes c.in_ok-inner.ensures.looked_for (λ _. inner) (λ _. nodes) in
     in_rest (key (codes "items")) c.in_ok-found.found (in_sockets (breaks r) sockets) rest (in_zone (breaks r) sc z) c.at_key-then-is_some-2.result
     (sym c.is_some.ensures ∙ c.if-is_some.false) c.in_ok-found.ensures way
     (in_first (key (codes "nodes")) c.in_ok-found-2.found (first_node (breaks r) inner 0 nodes) last rest c.at_key-then-is_some-2.result (sym c.is_some-2.ensures ∙ c.if-is_some-2.true) found (λ _. rest) c.at_key-then-is_some-2.ensures)
 
 pub in_zone-returns : goal.in_zone-returns
 in_zone-returns t c =
-    let r = c.args.scope.now.rule in
+    let r = c.args.scope.now.sought in
     let sc = scope_of c.args.scope.now in
     let z = c.args.zone.now in
     let sockets = map socket_of c.in_ok-items.items.list.now in
@@ -104,9 +104,9 @@ in_zone-returns t c =
     let rest = joined (key (codes "nodes")) (first_node (breaks r) inner 0 nodes) last in
     let same = ap (map socket_of) (c.in_ok-items.ensures ∙ c.deref.ensures.value) in
     let way = zone_way r sc z sockets inner nodes same c.in_ok-inner.ensures.seen (ap (λ s. s.nodes) c.in_ok-inner.ensures.seen) in
-    let found : option_map place_of c.in_ok-found-2.found ≡ first_node (breaks r) inner 0 nodes = c.in_ok-found-2.ensures ∙ nodes_way r c.in_ok-inner.inner.rule inner inner nodes nodes c.in_ok-inner.ensures.ruled (λ _. inner) (λ _. nodes) in
+    let found : option_map place_of c.in_ok-found-2.found ≡ first_node (breaks r) inner 0 nodes = c.in_ok-found-2.ensures ∙ nodes_way r c.in_ok-inner.inner.sought inner inner nodes nodes c.in_ok-inner.ensures.looked_for (λ _. inner) (λ _. nodes) in
     let given : option_map place_of c.in_ok-found-3.found ≡ output =
-    c.in_ok-found-3.ensures ∙ (ap (λ q. in_given_out (breaks q) inner sockets (map named_of c.deref-2.result.now)) c.in_ok-inner.ensures.ruled ∙ ap (λ xs. in_given_out (breaks r) inner sockets (map named_of xs)) c.deref-2.ensures.value) in
+    c.in_ok-found-3.ensures ∙ (ap (λ q. in_given_out (breaks q) inner sockets (map named_of c.deref-2.result.now)) c.in_ok-inner.ensures.looked_for ∙ ap (λ xs. in_given_out (breaks r) inner sockets (map named_of xs)) c.deref-2.ensures.value) in
     in_rest (key (codes "items")) c.in_ok-found.found (in_sockets (breaks r) sockets) rest (in_zone (breaks r) sc z) c.at_key-2.result
     (sym c.is_some.ensures ∙ c.if-is_some.false) c.in_ok-found.ensures way
     (in_rest (key (codes "nodes")) c.in_ok-found-2.found (first_node (breaks r) inner 0 nodes) last rest c.at_key-2.result (sym c.is_some-2.ensures ∙ c.if-is_some-2.false) found (λ _. rest)

@@ -9,11 +9,11 @@ use Rattle.gn_check.proofs.walk.+walk.Given as goal
 abbrev pub invariant-first_node-loop-node : goal.invariant-first_node-loop-node
 invariant-first_node-loop-node l =
     (l.number ≡ l.node-index)
-    × (walk.first_node (breaks l.scope.rule) (scope_of l.scope) l.node-index (nodes_of (drop l.node-index l.scope.nodes.now.items)) ≡ walk.first_node (breaks l.scope.rule) (scope_of l.scope) 0 (nodes_of l.scope.nodes.now.items))
+    × (walk.first_node (breaks l.scope.sought) (scope_of l.scope) l.node-index (nodes_of (drop l.node-index l.scope.nodes.now.items)) ≡ walk.first_node (breaks l.scope.sought) (scope_of l.scope) 0 (nodes_of l.scope.nodes.now.items))
 
 abbrev pub invariant-in_settings-loop-setting : goal.invariant-in_settings-loop-setting
 invariant-in_settings-loop-setting l =
-    walk.in_settings (breaks l.scope.rule) (scope_of l.scope) (settings_of (drop l.setting-index l.settings)) ≡ walk.in_settings (breaks l.scope.rule) (scope_of l.scope) (settings_of l.settings)
+    walk.in_settings (breaks l.scope.sought) (scope_of l.scope) (settings_of (drop l.setting-index l.settings)) ≡ walk.in_settings (breaks l.scope.sought) (scope_of l.scope) (settings_of l.settings)
 
 abbrev pub decreases-first_node : goal.decreases-first_node
 decreases-first_node l = 4 * nodes_size (nodes_of l.scope.now.nodes.now.items) + 1

@@ -7,5 +7,5 @@ use Rattle.gn_check.proofs.walk.first_group.Given as goal
 abbrev pub invariant-loop-group : goal.invariant-loop-group
 invariant-loop-group l =
     (l.number ≡ l.group-index)
-    × (walk.first_group (breaks l.rule) (map group_of l.groups.list.now) l.group-index (map group_of (drop l.group-index l.groups.list.now))
-    ≡ walk.first_group (breaks l.rule) (map group_of l.groups.list.now) 0 (map group_of l.groups.list.now))
+    × (walk.first_group (breaks l.sought) (map group_of l.groups.list.now) l.group-index (map group_of (drop l.group-index l.groups.list.now))
+    ≡ walk.first_group (breaks l.sought) (map group_of l.groups.list.now) 0 (map group_of l.groups.list.now))

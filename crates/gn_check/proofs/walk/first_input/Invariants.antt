@@ -8,4 +8,4 @@ use Rattle.gn_check.proofs.walk.first_input.Given as goal
 
 abbrev pub invariant-loop-name : goal.invariant-loop-name
 invariant-loop-name l =
-    walk.first_input (breaks l.scope.rule) (scope_of l.scope) (declared_by l.declared) (map named_of (drop l.name-index l.inputs)) ≡ walk.first_input (breaks l.scope.rule) (scope_of l.scope) (declared_by l.declared) (map named_of l.inputs)
+    walk.first_input (breaks l.scope.sought) (scope_of l.scope) (declared_by l.declared) (map named_of (drop l.name-index l.inputs)) ≡ walk.first_input (breaks l.scope.sought) (scope_of l.scope) (declared_by l.declared) (map named_of l.inputs)

@@ -9,7 +9,7 @@ use Rattle.gn_check.proofs.walk.in_inputs.Goals as goal
 
 pub returns : goal.returns
 returns c =
-    let r = c.args.scope.now.rule in
+    let r = c.args.scope.now.sought in
     let sc = scope_of c.args.scope.now in
     let ds = declared_by c.inputs_of-declared.result in
     let xs = map named_of c.inputs_of.result.now in

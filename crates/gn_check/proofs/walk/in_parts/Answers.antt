@@ -11,7 +11,7 @@ use Rattle.gn_check.proofs.walk.in_parts.Goals as goal
 
 pub returns-then-is_some : goal.returns-then-is_some
 returns-then-is_some c =
-    let r = c.args.rule in
+    let r = c.args.sought in
     let gs = map group_of c.args.groups.now.list.now in
     let g = group_of c.args.group.now in
     let inner = group_scope gs c.args.number g in
@@ -23,7 +23,7 @@ returns-then-is_some c =
 
 pub returns-then-is_some-2 : goal.returns-then-is_some-2
 returns-then-is_some-2 c =
-    let r = c.args.rule in
+    let r = c.args.sought in
     let gs = map group_of c.args.groups.now.list.now in
     let g = group_of c.args.group.now in
     let inner = group_scope gs c.args.number g in
@@ -35,13 +35,13 @@ returns-then-is_some-2 c =
     let found : option_map place_of c.in_ok-found.found ≡ first = c.in_ok-found.ensures ∙ ap (in_sockets (breaks r)) same in
     let seen : scope_of c.in_ok-scope.scope ≡ inner = scope_way gs c.args.number g (map socket_of c.in_ok-inputs.inputs.list.now) (scope_of c.in_ok-scope.scope) same c.in_ok-scope.ensures.seen in
     let later : option_map place_of c.in_ok-found-2.found ≡ body =
-    c.in_ok-found-2.ensures ∙ nodes_way r c.in_ok-scope.scope.rule (scope_of c.in_ok-scope.scope) inner (nodes_of c.in_ok-scope.scope.nodes.now.items) g.nodes c.in_ok-scope.ensures.ruled seen (ap (λ s. s.nodes) seen) in
+    c.in_ok-found-2.ensures ∙ nodes_way r c.in_ok-scope.scope.sought (scope_of c.in_ok-scope.scope) inner (nodes_of c.in_ok-scope.scope.nodes.now.items) g.nodes c.in_ok-scope.ensures.looked_for seen (ap (λ s. s.nodes) seen) in
     in_rest (key (codes "inputs")) c.in_ok-found.found first rest (joined (key (codes "inputs")) first rest) c.at_key-then-is_some-2.result (sym c.is_some.ensures ∙ c.if-is_some.false) found (λ _. joined (key (codes "inputs")) first rest)
     (in_first (key (codes "nodes")) c.in_ok-found-2.found body last rest c.at_key-then-is_some-2.result (sym c.is_some-2.ensures ∙ c.if-is_some-2.true) later (λ _. rest) c.at_key-then-is_some-2.ensures)
 
 pub returns : goal.returns
 returns c =
-    let r = c.args.rule in
+    let r = c.args.sought in
     let gs = map group_of c.args.groups.now.list.now in
     let g = group_of c.args.group.now in
     let inner = group_scope gs c.args.number g in
@@ -53,7 +53,7 @@ returns c =
     let found : option_map place_of c.in_ok-found.found ≡ first = c.in_ok-found.ensures ∙ ap (in_sockets (breaks r)) same in
     let seen : scope_of c.in_ok-scope.scope ≡ inner = scope_way gs c.args.number g (map socket_of c.in_ok-inputs.inputs.list.now) (scope_of c.in_ok-scope.scope) same c.in_ok-scope.ensures.seen in
     let later : option_map place_of c.in_ok-found-2.found ≡ body =
-    c.in_ok-found-2.ensures ∙ nodes_way r c.in_ok-scope.scope.rule (scope_of c.in_ok-scope.scope) inner (nodes_of c.in_ok-scope.scope.nodes.now.items) g.nodes c.in_ok-scope.ensures.ruled seen (ap (λ s. s.nodes) seen) in
-    let answer = is_same c.in_results.result (in_results (breaks c.in_ok-scope.scope.rule) (scope_of c.in_ok-scope.scope) g) last (ap (λ q. in_results (breaks q) (scope_of c.in_ok-scope.scope) g) c.in_ok-scope.ensures.ruled ∙ ap (λ s. in_results (breaks r) s g) seen) c.in_results.ensures in
+    c.in_ok-found-2.ensures ∙ nodes_way r c.in_ok-scope.scope.sought (scope_of c.in_ok-scope.scope) inner (nodes_of c.in_ok-scope.scope.nodes.now.items) g.nodes c.in_ok-scope.ensures.looked_for seen (ap (λ s. s.nodes) seen) in
+    let answer = is_same c.in_results.result (in_results (breaks c.in_ok-scope.scope.sought) (scope_of c.in_ok-scope.scope) g) last (ap (λ q. in_results (breaks q) (scope_of c.in_ok-scope.scope) g) c.in_ok-scope.ensures.looked_for ∙ ap (λ s. in_results (breaks r) s g) seen) c.in_results.ensures in
     in_rest (key (codes "inputs")) c.in_ok-found.found first rest (joined (key (codes "inputs")) first rest) c.in_results.result (sym c.is_some.ensures ∙ c.if-is_some.false) found (λ _. joined (key (codes "inputs")) first rest)
     (in_rest (key (codes "nodes")) c.in_ok-found-2.found body last rest c.in_results.result (sym c.is_some-2.ensures ∙ c.if-is_some-2.false) later (λ _. rest) answer)

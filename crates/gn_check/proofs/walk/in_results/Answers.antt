@@ -9,7 +9,7 @@ use Rattle.gn_check.proofs.walk.in_results.Goals as goal
 
 pub returns-then-is_some : goal.returns-then-is_some
 returns-then-is_some c =
-    let r = c.args.scope.now.rule in
+    let r = c.args.scope.now.sought in
     let sc = scope_of c.args.scope.now in
     let sockets = map socket_of c.args.group.now.outputs.items in
     let output = map named_of c.args.group.now.output.items in
@@ -22,7 +22,7 @@ returns-then-is_some c =
 
 pub returns : goal.returns
 returns c =
-    let r = c.args.scope.now.rule in
+    let r = c.args.scope.now.sought in
     let sc = scope_of c.args.scope.now in
     let sockets = map socket_of c.args.group.now.outputs.items in
     let output = map named_of c.args.group.now.output.items in
