@@ -1,3 +1,4 @@
 pub mod Ways
-pub mod Settling
+pub mod Marks
+pub mod Ranking
 pub mod Searching

@@ -5,9 +5,8 @@ use Rattle.std.proofs.lemmas.List.Sums.{sum_by-set}
 use Rattle.std.proofs.lemmas.List.Folds.{list_any-append}
 use Rattle.std.proofs.lemmas.Bool.Decides.{Decides-eqb}
 use Rattle.gn_cycle.specs.Graph.{Graph, has, targets, has_edge, Leads, by_edge, further}
-use Rattle.gn_cycle.specs.Settled.{is_new}
-use Rattle.gn_cycle.specs.Search.{State, with_node, with_nodes, Reached, unmet}
-use Rattle.gn_cycle.proofs.Settling.{same_or_not, inside}
+use Rattle.gn_cycle.specs.Search.{is_new, State, with_node, with_nodes, Reached, unmet}
+use Rattle.gn_cycle.proofs.Marks.{same_or_not, inside}
 use Rattle.gn_cycle.proofs.Ways as ways
 
 below_or_past : (m n : ℕ) → (m < n) ⊎ (n ≤ m)

@@ -1,4 +1,4 @@
 pub mod Graph
 pub mod Ways
-pub mod Settled
+pub mod Ranks
 pub mod Search

@@ -1,8 +1,14 @@
 -- A search through a graph: the marks of the nodes that were met, and these in the order in which they
 -- were.
-use Rattle.std.specs.Prelude.{◌≡◌, ◌≢◌, ◌<◌, ◌≤◌, ◌⊎◌, ℕ, Bool, false, List, [], ◌∷◌, ◌++◌, length, fold, sum_by, slice_index_or, IsTrue, if◌then◌else◌}
+use Rattle.std.specs.Prelude.{◌≡◌, ◌≢◌, ◌<◌, ◌≤◌, ◌⊎◌, ℕ, Bool, true, false, not, List, [], ◌∷◌, ◌++◌, length, fold, sum_by, slice_index_or, slice_set, IsTrue, if◌then◌else◌}
 use Rattle.gn_cycle.specs.Graph.{Graph, has, has_edge, Leads}
-use Rattle.gn_cycle.specs.Settled.{is_new, mark}
+
+-- the node is there, and is not marked
+abbrev pub is_new : List Bool → ℕ → Bool
+is_new marks node = not (slice_index_or marks node true)
+
+abbrev pub mark : List Bool → ℕ → List Bool
+mark marks node = if is_new marks node then slice_set marks node true else marks
 
 abbrev pub State : Type 0
 State = List Bool × List ℕ

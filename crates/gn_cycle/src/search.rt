@@ -1,10 +1,23 @@
 ghost use Rattle.std.specs.Prelude.{◌≡◌, List, IfOk, OnOk, Decides, length};
 ghost use Rattle.gn_cycle.specs.Graph.{Leads, lists, has};
+ghost use Rattle.gn_cycle.specs.Search as spec;
 ghost use Rattle.gn_cycle.specs.Search.{State, with_node, with_nodes};
 
-use crate::settle::{mark, targets_of};
+use crate::targets::targets_of;
 use gn_memory::Memory;
 use std::alloc::Global;
+
+/// Marks the node, and tells whether it is there and had no mark.
+fn mark(marks: &mut Vec<bool>, node: usize) -> bool
+    ensures marked { marks.new.items ≡ spec.mark marks.old.items node }
+    ensures is_new { result ≡ spec.is_new marks.old.items node }
+{
+    if node < marks.len() && !marks[node] {
+        marks[node] = true;
+        return true;
+    }
+    false
+}
 
 /// Puts a node behind the others, unless it was met before.
 fn meet(met: &mut Vec<bool>, queue: &mut Vec<usize>, node: usize) -> Result<(), Memory>
