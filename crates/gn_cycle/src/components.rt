@@ -10,10 +10,10 @@ struct Visit {
     next: usize,
 }
 
-/// Tarjan's search for strongly connected components, as far as it has come. Of what it finds nothing
-/// is promised: `Graph` looks for itself whether an edge leads to a higher number.
+/// Tarjan's search for strongly connected components, as far as it has come. Nothing is promised of
+/// what it finds: `Graph::new` looks for itself whether an edge leads to a higher number.
 #[derive(Drop)]
-struct Search {
+struct ComponentSearch {
     /// How many nodes were met.
     met: usize,
     /// For each node that was met, the least number of a node to which it is known to lead; else 0.
@@ -28,6 +28,7 @@ struct Search {
     components: Vec<usize>,
 }
 
+/// The number of a node; 0 for one that isn't there.
 fn number_of(numbers: &[usize], node: usize) -> usize {
     match numbers.get(node) {
         Some(number) => *number,
@@ -35,17 +36,18 @@ fn number_of(numbers: &[usize], node: usize) -> usize {
     }
 }
 
+/// Gives a node a number, if it is there.
 fn set_number(numbers: &mut Vec<usize>, node: usize, number: usize) {
     if node < numbers.len() {
         numbers[node] = number;
     }
 }
 
-impl Search {
-    fn new(alloc: Global, nodes: usize) -> Result<Search, Memory> {
+impl ComponentSearch {
+    fn new(alloc: Global, nodes: usize) -> Result<ComponentSearch, Memory> {
         let lowest = vec![in alloc; 0; nodes]?;
         let components = vec![in alloc; 0; nodes]?;
-        Ok(Search {
+        Ok(ComponentSearch {
             met: 0,
             lowest,
             open: Vec::new(alloc),
@@ -55,6 +57,7 @@ impl Search {
         })
     }
 
+    /// Puts a node that was not met before at the end of the way.
     fn meet(&mut self, node: usize) -> Result<(), Memory> {
         self.met = self.met.saturating_add(1);
         set_number(&mut self.lowest, node, self.met);
@@ -67,11 +70,14 @@ impl Search {
         Ok(())
     }
 
+    /// Notes that a node leads to the one that was met under that number.
     fn lower(&mut self, node: usize, number: usize) {
         let lowest = number.min(number_of(&self.lowest, node));
         set_number(&mut self.lowest, node, lowest);
     }
 
+    /// Goes along an edge to a target that is not met yet, or notes how far back it leads. A target
+    /// that is in a component already leads to no node on the way.
     fn go_along(&mut self, node: usize, target: usize) -> Result<(), Memory> {
         if self.lowest.len() <= target {
             return Ok(());
@@ -86,7 +92,7 @@ impl Search {
         Ok(())
     }
 
-    /// Makes a component of the nodes that were met from this one on.
+    /// Makes a component of this node and of those that were met after it and are in none yet.
     fn close(&mut self, node: usize) {
         self.count = self.count.saturating_add(1);
         for _ in 0..self.open.len() {
@@ -100,6 +106,8 @@ impl Search {
         }
     }
 
+    /// Leaves a node all of whose edges were gone along. If it leads to no node that was met
+    /// earlier, it is the first one of its component.
     fn end(&mut self, visit: Visit) {
         let lowest = number_of(&self.lowest, visit.node);
         if lowest == visit.number {
@@ -111,6 +119,7 @@ impl Search {
         }
     }
 
+    /// Goes along the next edge of the last node on the way, or leaves it.
     fn step(&mut self, targets: &[Vec<usize>], visit: Visit) -> Result<(), Memory> {
         match targets_of(targets, visit.node).get(visit.next) {
             Some(target) => {
@@ -128,6 +137,7 @@ impl Search {
         }
     }
 
+    /// Goes from a node to all that it leads to, unless it was met before.
     fn search_from(
         &mut self,
         targets: &[Vec<usize>],
@@ -160,11 +170,11 @@ fn most_steps(targets: &[Vec<usize>]) -> usize {
 /// For each node the number of its strongly connected component, from 1, in the order in which they
 /// end, so that an edge to another component leads to a lower number.
 pub(crate) fn components(alloc: Global, targets: &[Vec<usize>]) -> Result<Vec<usize>, Memory> {
-    let mut search = Search::new(alloc, targets.len())?;
+    let mut search = ComponentSearch::new(alloc, targets.len())?;
     let steps = most_steps(targets);
     for node in 0..targets.len() {
         search.search_from(targets, node, steps)?;
     }
-    let Search { components, .. } = search;
+    let ComponentSearch { components, .. } = search;
     Ok(components)
 }
