@@ -1,9 +1,7 @@
 pub mod Looking
 pub mod Finding
-pub mod Capping
-pub mod Within
 pub mod Grouping
 pub mod Leading
-pub mod Alike
+pub mod Judging
 pub mod Walking
 pub mod Naming

@@ -1,9 +1,7 @@
 -- What is kept of the groups of a tree.
-use Rattle.std.specs.Prelude.{ℕ, List, map}
+use Rattle.std.specs.Prelude.{List, map}
 use Rattle.gn_tree.specs.Trees as t
 use Rattle.gn_tree.specs.Seen.{socket_of}
-use Rattle.gn_rules.specs.Measures.{of_groups}
-use Rattle.gn_check.specs.Capped.{capped_heights, capped_counts}
 use Rattle.gn_check.specs.declared.sockets.Sockets.{Sockets}
 use Rattle.gn_check.specs.declared.groups.Side.{Side}
 use Rattle.gn_check.specs.declared.groups.Side.TheVariants as side
@@ -14,9 +12,3 @@ lists_in xs = map (λ x. map socket_of x.list.now) xs
 abbrev pub side_of : Side → t.Group → List t.Socket
 side_of side.Inputs g = g.inputs
 side_of side.Outputs g = g.outputs
-
-abbrev pub heights_capped : List t.Group → List ℕ
-heights_capped gs = of_groups capped_heights gs
-
-abbrev pub counts_capped : List t.Group → List ℕ
-counts_capped gs = of_groups capped_counts gs

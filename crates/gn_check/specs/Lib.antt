@@ -1,6 +1,4 @@
 pub mod Settings
-pub mod Capped
-pub mod Measures
 pub mod Groups
 pub mod Nodes
 pub mod Scopes

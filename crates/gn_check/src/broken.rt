@@ -10,7 +10,6 @@ ghost use Rattle.gn_rules.specs.Walk as walk;
 ghost use Rattle.gn_check.specs.Seen.{scope_of};
 
 use crate::groups::Groups;
-use crate::measure::{Known, counts, height};
 use crate::scope::{Scope, id_of, settings_of};
 use crate::setting::is_zone;
 use gn_kinds::SocketKind;
@@ -161,18 +160,11 @@ pub(crate) fn input_breaks(scope: &Scope<'_>, shape: Option<Shape>, input: &Tree
 }
 
 /// Whether the node is a zone higher than 2.
+#[tactic(auto, using(crate::proofs::Judging::too_high_seen))]
 fn is_too_high(scope: &Scope<'_>, node: &Node) -> bool
     ensures { result ≡ rules.is_too_high (scope_of scope.now) node.now }
 {
-    if !is_zone(settings_of(node)) {
-        return false;
-    }
-    let above = Known {
-        names: &scope.groups.names,
-        numbers: scope.groups.heights.as_slice(),
-        above: scope.above,
-    };
-    2 < height(&above, node)
+    is_zone(settings_of(node)) && scope.groups.measures.is_higher(scope.above, node, 2)
 }
 
 fn is_on_cycle(alloc: Global, scope: &Scope<'_>, number: usize) -> Result<bool, Memory>
@@ -208,12 +200,7 @@ fn has_too_many(groups: &Groups<'_>, tree: &Tree) -> bool
     requires { groups.now.list.now ≡ tree.now.groups.items }
     ensures { result ≡ nat_lt 16384 (rules.node_count (tree_of tree.now)) }
 {
-    let all = Known {
-        names: &groups.names,
-        numbers: groups.counts.as_slice(),
-        above: groups.list.len(),
-    };
-    16_384 < counts(&all, &tree.nodes)
+    groups.measures.has_more_nodes(tree, 16_384)
 }
 
 /// Whether the tree's own list of nodes breaks a rule by itself.

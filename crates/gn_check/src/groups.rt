@@ -2,12 +2,10 @@ ghost use Rattle.std.specs.Prelude.{◌≡◌, [], IfOk, map, slice_get};
 ghost use Rattle.std.specs.Option.{option_map_or};
 ghost use Rattle.gn_tree.specs.Seen.{group_of, socket_of};
 ghost use Rattle.gn_rules.specs.Sockets.{group_names, group_named};
-ghost use Rattle.gn_check.specs.Groups.{lists_in, side_of, heights_capped, counts_capped};
-ghost use Rattle.gn_rules.specs.Measures.{group_by_group};
-ghost use Rattle.gn_check.specs.Capped.{capped_heights, capped_counts};
+ghost use Rattle.gn_check.specs.Groups.{lists_in, side_of};
 
-use crate::measure::{Known, counts, heights};
 use crate::sockets::Sockets;
+use gn_measure::Measures;
 use gn_memory::Memory;
 use gn_names::Names;
 use gn_tree::Group;
@@ -28,14 +26,12 @@ pub(crate) struct Groups<'a> {
     pub(crate) inputs: Vec<Sockets<'a>>,
     pub(crate) outputs: Vec<Sockets<'a>>,
     pub(crate) none: Sockets<'a>,
-    pub(crate) heights: Vec<u64>,
-    pub(crate) counts: Vec<u64>,
+    pub(crate) measures: Measures<'a>,
     ghost named: { names ≡ group_names (map group_of list.now) },
     ghost with_inputs: { lists_in inputs.items ≡ map (λ g. g.inputs) (map group_of list.now) },
     ghost with_outputs: { lists_in outputs.items ≡ map (λ g. g.outputs) (map group_of list.now) },
     ghost without: { none.list.now ≡ [] },
-    ghost with_heights: { heights.items ≡ heights_capped (map group_of list.now) },
-    ghost with_counts: { counts.items ≡ counts_capped (map group_of list.now) },
+    ghost measured: { measures.groups.now ≡ list.now },
 }
 
 fn names_of<'a>(alloc: Global, list: &'a [Group]) -> Result<Vec<&'a str>, Memory>
@@ -67,38 +63,6 @@ fn all_sockets<'a>(alloc: Global, list: &'a [Group], side: Side) -> Result<Vec<S
     Ok(sockets)
 }
 
-fn all_heights(alloc: Global, names: &Names<'_>, list: &[Group]) -> Result<Vec<u64>, Memory>
-    ensures { IfOk result (λ numbers. numbers.items ≡ group_by_group capped_heights names.now [] (map group_of list.now)) }
-{
-    let mut numbers = Vec::with_capacity(alloc, list.len())?;
-    for group in list {
-        let above = Known {
-            names: &*names,
-            numbers: numbers.as_slice(),
-            above: numbers.len(),
-        };
-        let height = heights(&above, &group.nodes);
-        numbers.push(height)?;
-    }
-    Ok(numbers)
-}
-
-fn all_counts(alloc: Global, names: &Names<'_>, list: &[Group]) -> Result<Vec<u64>, Memory>
-    ensures { IfOk result (λ numbers. numbers.items ≡ group_by_group capped_counts names.now [] (map group_of list.now)) }
-{
-    let mut numbers = Vec::with_capacity(alloc, list.len())?;
-    for group in list {
-        let above = Known {
-            names: &*names,
-            numbers: numbers.as_slice(),
-            above: numbers.len(),
-        };
-        let count = counts(&above, &group.nodes);
-        numbers.push(count)?;
-    }
-    Ok(numbers)
-}
-
 impl<'a> Groups<'a> {
     pub(crate) fn new(alloc: Global, list: &'a [Group]) -> Result<Groups<'a>, Memory>
         ensures { IfOk result (λ groups. groups.list.now ≡ list.now) }
@@ -107,16 +71,14 @@ impl<'a> Groups<'a> {
         let inputs = all_sockets(alloc, list, Side::Inputs)?;
         let outputs = all_sockets(alloc, list, Side::Outputs)?;
         let none = Sockets::new(alloc, &[])?;
-        let heights = all_heights(alloc, &names, list)?;
-        let counts = all_counts(alloc, &names, list)?;
+        let measures = Measures::new(alloc, list)?;
         Ok(Groups {
             list,
             names,
             inputs,
             outputs,
             none,
-            heights,
-            counts,
+            measures,
         })
     }
 

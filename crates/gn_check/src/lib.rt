@@ -3,9 +3,8 @@
 //! `check` promises the least rule that a tree breaks with the first place where it does, or a
 //! `GoodTree`, which keeps all of them. It goes through the tree once with all rules, and again rule by
 //! rule only where one is broken. Names are looked up in a map that is made for each list: no link and
-//! no key costs a walk over a list. Heights and numbers of nodes are found group by group, each once.
-//! It stands on the rules of `gn_rules`, on the trees of `gn_tree`, and on the look-ups of `gn_names`
-//! and the search of `gn_cycle`.
+//! no key costs a walk over a list. It stands on the rules of `gn_rules`, on the trees of `gn_tree`,
+//! on the look-ups of `gn_names`, the search of `gn_cycle` and the measures of `gn_measure`.
 #![tactic(auto)]
 
 mod broken;
@@ -14,7 +13,6 @@ mod edges;
 mod fault;
 mod good;
 mod groups;
-mod measure;
 mod scope;
 mod setting;
 mod sockets;

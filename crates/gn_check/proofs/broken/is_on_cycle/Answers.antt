@@ -1,7 +1,7 @@
 use Rattle.std.proofs.Common.{[], ap, ◌∙◌, if◌then◌else◌}
 use Rattle.gn_tree.specs.Seen.{nodes_of}
 use Rattle.gn_rules.specs.Rules.{graph_of}
-use Rattle.gn_check.proofs.Alike.{cycle_seen}
+use Rattle.gn_check.proofs.Judging.{cycle_seen}
 use Rattle.gn_check.proofs.broken.is_on_cycle.Goals as goal
 
 pub returns : goal.returns

@@ -10,7 +10,7 @@ use Rattle.gn_rules.specs.Walk.{breaks, in_node, in_settings, first_node, in_soc
 use Rattle.gn_check.specs.Nodes.{settings_in}
 use Rattle.gn_check.specs.Seen.{scope_of}
 use Rattle.gn_check.specs.Zones.{in_inputs_of_node, in_zone}
-use Rattle.gn_check.proofs.Within.{node_within, setting_within}
+use Rattle.gn_measure.proofs.Within.{node_within, setting_within}
 use Rattle.gn_check.proofs.Walking.{is_same, in_first, in_rest, in_last, size_of_node, node_way, zone_next, zone_smaller, zone_way, nodes_way}
 use Rattle.gn_check.proofs.walk.+walk.Goals as goal
 

@@ -2,9 +2,9 @@ use Rattle.std.proofs.Common.{◌≡◌, ◌+◌, ◌*◌, ◌<◌, ◌^◌, dro
 use Rattle.gn_tree.specs.Trees.{node_size, settings_size, nodes_size, no_settings}
 use Rattle.gn_tree.specs.Seen.{nodes_of, settings_of, setting_then}
 use Rattle.gn_rules.specs.Measures as rule
-use Rattle.gn_check.specs.Capped.{capped}
-use Rattle.gn_check.specs.Measures.{known}
-use Rattle.gn_check.proofs.measure.+count.Given as goal
+use Rattle.gn_measure.specs.Capped.{capped}
+use Rattle.gn_measure.specs.Measures.{known}
+use Rattle.gn_measure.proofs.measure.+count.Given as goal
 
 abbrev pub invariant-count_in-loop-setting : goal.invariant-count_in-loop-setting
 invariant-count_in-loop-setting l =

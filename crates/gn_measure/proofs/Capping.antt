@@ -6,7 +6,7 @@ use Rattle.gn_tree.specs.Seen.{setting_then}
 use Rattle.gn_tree.specs.declared.tree.Setting.{Setting}
 use Rattle.gn_tree.specs.declared.tree.Setting.TheVariants as s
 use Rattle.gn_rules.specs.Measures.{height_in, count_in}
-use Rattle.gn_check.specs.Measures.{height_of, count_of}
+use Rattle.gn_measure.specs.Measures.{height_of, count_of}
 
 pub height_then : (f : Text → ℕ) (x : Setting) (rest : Settings) → height_in f (setting_then x rest) ≡ max (height_of f x) (height_in f rest)
 height_then f (s.Group name) rest = refl

@@ -1,8 +1,8 @@
 use Rattle.std.proofs.Common.{◌≤◌, subst, arith}
 use Rattle.gn_tree.specs.Trees.{node_size, settings_size, nodes_size, no_settings}
 use Rattle.gn_tree.specs.Seen.{nodes_of, settings_of, setting_then}
-use Rattle.gn_check.proofs.Within.{node_within, setting_within}
-use Rattle.gn_check.proofs.measure.+height.Goals as goal
+use Rattle.gn_measure.proofs.Within.{node_within, setting_within}
+use Rattle.gn_measure.proofs.measure.+height.Goals as goal
 
 pub height_in-height_of-requires : goal.height_in-height_of-requires
 height_in-height_of-requires t c =

@@ -1,8 +1,8 @@
 ghost use Rattle.std.specs.Prelude.{◌≡◌};
 ghost use Rattle.gn_tree.specs.Seen.{nodes_of, settings_of};
 ghost use Rattle.gn_rules.specs.Measures as rule;
-ghost use Rattle.gn_check.specs.Capped.{capped};
-ghost use Rattle.gn_check.specs.Measures.{known, height_of, count_of};
+ghost use Rattle.gn_measure.specs.Capped.{capped};
+ghost use Rattle.gn_measure.specs.Measures.{known, height_of, count_of};
 
 use gn_names::Names;
 use gn_tree::{Node, Setting};

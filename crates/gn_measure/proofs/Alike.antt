@@ -1,25 +1,16 @@
 -- A measure that is capped at each step is the capped measure.
-use Rattle.std.proofs.Common.{◌≡◌, ℕ, suc, ◌+◌, ◌<◌, ◌-◌, ◌^◌, max, Bool, List, [], ◌∷◌, ◌++◌, ◌&&◌, map, length, get_or, Option, Some, None, nat_lt, refl, sym, ap, ◌∙◌, arith, if◌then◌else◌, true, false}
+use Rattle.std.proofs.Common.{◌≡◌, ℕ, suc, ◌+◌, ◌<◌, ◌-◌, ◌^◌, max, Bool, List, [], ◌∷◌, ◌++◌, map, length, get_or, Option, Some, None, nat_lt, refl, sym, ap, ◌∙◌, arith, if◌then◌else◌, true, false}
 use Rattle.std.specs.Option.{option_map_or}
 use Rattle.std.proofs.lemmas.List.{map-append, length-map}
 use Rattle.std.proofs.lemmas.Bool.Decides.{nat_tests}
 use Rattle.std.proofs.Math.ListN.{get_or-map}
-use Rattle.std.proofs.Common.{Result, Ok, Err, IfOk, Decides, subst}
-use Rattle.std.proofs.lemmas.Bool.Decides.{same_from_decides}
-use Rattle.gn_memory.specs.declared.Memory.{Memory}
-use Rattle.gn_cycle.specs.Graph.{Graph, Leads}
-use Rattle.gn_cycle.specs.Ways.{is_on_cycle}
-use Rattle.gn_cycle.proofs.Ways.{tells_cycle}
 use Rattle.gn_kinds.specs.Row.{Text}
 use Rattle.gn_names.specs.First.{first_of}
 use Rattle.gn_tree.specs.Trees.{Node, node, Setting, of_group, Settings, no_settings, and_setting, and_zone, Nodes, no_nodes, and_node, Group}
-use Rattle.gn_rules.specs.Sockets.{group_names, is_zone}
-use Rattle.gn_rules.specs.Scopes.{Scope}
+use Rattle.gn_rules.specs.Sockets.{group_names}
 use Rattle.gn_rules.specs.Measures.{by_group, height, height_in, heights, count, count_in, counts, number_among, group_by_group, of_groups, known_above}
-use Rattle.gn_rules.specs.Rules.{is_too_high}
-use Rattle.gn_check.specs.Capped.{capped}
-use Rattle.gn_check.specs.Groups.{heights_capped, counts_capped}
-use Rattle.gn_check.specs.Nodes.{settings_in}
+use Rattle.gn_measure.specs.Capped.{capped}
+use Rattle.gn_measure.specs.Measures.{heights_capped, counts_capped}
 
 abbrev pub Alike : (Text → ℕ) → (Text → ℕ) → Type 0
 Alike f g = (name : Text) → capped (f name) ≡ capped (g name)
@@ -118,22 +109,15 @@ height_known gs a n = height_alike (known_above heights gs a) (number_among (gro
 pub counts_known : (gs : List Group) (a : ℕ) (ns : Nodes) → capped (counts (known_above counts gs a) ns) ≡ capped (counts (number_among (group_names gs) (counts_capped gs) a) ns)
 counts_known gs a ns = counts_alike (known_above counts gs a) (number_among (group_names gs) (counts_capped gs) a) (known_alike counts counts_alike gs a) ns
 
-pub too_high_seen : (s : Scope) (n : Node) → is_too_high s n ≡ (is_zone (settings_in n) && nat_lt 2 (height (known_above heights s.groups s.above) n))
-too_high_seen s (node id kind set inputs) = refl
+height_same : (gs : List Group) (a : ℕ) (n : Node) (result : ℕ) (names : List Text) (numbers : List ℕ) → names ≡ group_names gs → numbers ≡ heights_capped gs → result ≡ capped (height (number_among names numbers a) n)
+    → capped result ≡ capped (height (known_above heights gs a) n)
+height_same gs a n result names numbers e f r =
+    ap capped r ∙ (cap_twice (height (number_among names numbers a) n)
+    ∙ (ap (λ x. capped (height (number_among x numbers a) n)) e ∙ (ap (λ x. capped (height (number_among (group_names gs) x a) n)) f ∙ sym (height_known gs a n))))
 
-height_same : (s : Scope) (n : Node) (result : ℕ) (names : List Text) (numbers : List ℕ) → names ≡ group_names s.groups → numbers ≡ heights_capped s.groups → result ≡ capped (height (number_among names numbers s.above) n)
-    → capped result ≡ capped (height (known_above heights s.groups s.above) n)
-height_same s n result names numbers e f r =
-    ap capped r ∙ (cap_twice (height (number_among names numbers s.above) n)
-    ∙ (ap (λ x. capped (height (number_among x numbers s.above) n)) e
-    ∙ (ap (λ x. capped (height (number_among (group_names s.groups) x s.above) n)) f ∙ sym (height_known s.groups s.above n))))
-
-pub high_seen : (s : Scope) (n : Node) (zone : Bool) (result : ℕ) (names : List Text) (numbers : List ℕ) → names ≡ group_names s.groups → numbers ≡ heights_capped s.groups → zone ≡ is_zone (settings_in n)
-    → result ≡ capped (height (number_among names numbers s.above) n) → (zone && nat_lt 2 result) ≡ is_too_high s n
-high_seen s n zone result names numbers e f z r =
-    ap (λ b. b && nat_lt 2 result) z
-    ∙ (ap (λ b. is_zone (settings_in n) && b) (same_test 2 result (height (known_above heights s.groups s.above) n) (omega arith) (height_same s n result names numbers e f r))
-    ∙ sym (too_high_seen s n))
+pub higher_seen : (gs : List Group) (a : ℕ) (n : Node) (limit result : ℕ) (names : List Text) (numbers : List ℕ) → limit < 2 ^ 64 - 1 → names ≡ group_names gs → numbers ≡ heights_capped gs
+    → result ≡ capped (height (number_among names numbers a) n) → nat_lt limit result ≡ nat_lt limit (height (known_above heights gs a) n)
+higher_seen gs a n limit result names numbers h e f r = same_test limit result (height (known_above heights gs a) n) h (height_same gs a n result names numbers e f r)
 
 count_same : (gs : List Group) (a : ℕ) (ns : Nodes) (result : ℕ) (names : List Text) (numbers : List ℕ) → names ≡ group_names gs → numbers ≡ counts_capped gs → result ≡ capped (counts (number_among names numbers a) ns)
     → capped result ≡ capped (counts (known_above counts gs a) ns)
@@ -141,12 +125,8 @@ count_same gs a ns result names numbers e f r =
     ap capped r ∙ (cap_twice (counts (number_among names numbers a) ns)
     ∙ (ap (λ x. capped (counts (number_among x numbers a) ns)) e ∙ (ap (λ x. capped (counts (number_among (group_names gs) x a) ns)) f ∙ sym (counts_known gs a ns))))
 
-pub many_seen : (gs hs : List Group) (a : ℕ) (ns : Nodes) (result : ℕ) (names : List Text) (numbers : List ℕ) → names ≡ group_names gs → numbers ≡ counts_capped gs → gs ≡ hs → a ≡ length gs
-    → result ≡ capped (counts (number_among names numbers a) ns) → nat_lt 16384 result ≡ nat_lt 16384 (counts (known_above counts hs (length hs)) ns)
-many_seen gs hs a ns result names numbers e f g n r =
-    same_test 16384 result (counts (known_above counts gs a) ns) (omega arith) (count_same gs a ns result names numbers e f r)
-    ∙ (ap (λ x. nat_lt 16384 (counts (known_above counts gs x) ns)) n ∙ ap (λ xs. nat_lt 16384 (counts (known_above counts xs (length xs)) ns)) g)
-
-pub cycle_seen : (r : Result Bool Memory) (one other : Graph) (i : ℕ) → one ≡ other → IfOk r (λ found. Decides found (Leads one i i)) → IfOk r (λ found. found ≡ is_on_cycle other i)
-cycle_seen (Ok b) one other i e h = same_from_decides b (is_on_cycle other i) (subst (λ g. Decides b (Leads g i i)) e h) (tells_cycle other i)
-cycle_seen (Err x) one other i e h = tt
+pub more_seen : (gs hs : List Group) (a : ℕ) (ns : Nodes) (limit result : ℕ) (names : List Text) (numbers : List ℕ) → limit < 2 ^ 64 - 1 → names ≡ group_names gs → numbers ≡ counts_capped gs → gs ≡ hs → a ≡ length gs
+    → result ≡ capped (counts (number_among names numbers a) ns) → nat_lt limit result ≡ nat_lt limit (counts (known_above counts hs (length hs)) ns)
+more_seen gs hs a ns limit result names numbers h e f g n r =
+    same_test limit result (counts (known_above counts gs a) ns) h (count_same gs a ns result names numbers e f r)
+    ∙ (ap (λ x. nat_lt limit (counts (known_above counts gs x) ns)) n ∙ ap (λ xs. nat_lt limit (counts (known_above counts xs (length xs)) ns)) g)
