@@ -143,7 +143,8 @@ fn is_unfit_for(scope: &Scope<'_>, shape: Option<Shape>, input: &TreeInput) -> b
     }
 }
 
-fn has_no_source(scope: &Scope<'_>, shape: Option<Shape>, input: &TreeInput) -> bool
+/// Whether there is no socket for the input, or its link leads from nothing.
+fn names_nothing(scope: &Scope<'_>, shape: Option<Shape>, input: &TreeInput) -> bool
     ensures { result ≡ (is_none shape || rules.is_loose (scope_of scope.now) (input_of input.now)) }
 {
     shape.is_none() || is_loose(scope, input)
@@ -153,7 +154,7 @@ fn has_no_source(scope: &Scope<'_>, shape: Option<Shape>, input: &TreeInput) -> 
 pub(crate) fn input_breaks(scope: &Scope<'_>, shape: Option<Shape>, input: &TreeInput) -> bool
     ensures { result ≡ walk.breaks_input scope.now.sought (scope_of scope.now) shape (input_of input.now) }
 {
-    if scope.sought.has(Rule::Links) && has_no_source(scope, shape, input) {
+    if scope.sought.has(Rule::Links) && names_nothing(scope, shape, input) {
         return true;
     }
     scope.sought.has(Rule::Kinds) && is_unfit_for(scope, shape, input)

@@ -7,7 +7,6 @@ ghost use Rattle.gn_check.specs.Groups.{lists_in, side_of};
 use crate::sockets::Sockets;
 use gn_measure::Measures;
 use gn_memory::Memory;
-use gn_names::Names;
 use gn_tree::Group;
 use std::alloc::Global;
 
@@ -22,26 +21,15 @@ pub(crate) enum Side {
 #[derive(Drop)]
 pub(crate) struct Groups<'a> {
     pub(crate) list: &'a [Group],
-    pub(crate) names: Names<'a>,
     pub(crate) inputs: Vec<Sockets<'a>>,
     pub(crate) outputs: Vec<Sockets<'a>>,
     pub(crate) none: Sockets<'a>,
     pub(crate) measures: Measures<'a>,
-    ghost named: { names ≡ group_names (map group_of list.now) },
+    ghost named: { measures.names ≡ group_names (map group_of list.now) },
     ghost with_inputs: { lists_in inputs.items ≡ map (λ g. g.inputs) (map group_of list.now) },
     ghost with_outputs: { lists_in outputs.items ≡ map (λ g. g.outputs) (map group_of list.now) },
     ghost without: { none.list.now ≡ [] },
     ghost measured: { measures.groups.now ≡ list.now },
-}
-
-fn names_of<'a>(alloc: Global, list: &'a [Group]) -> Result<Vec<&'a str>, Memory>
-    ensures { IfOk result (λ texts. map (λ text. text.now) texts.items ≡ group_names (map group_of list.now)) }
-{
-    let mut texts = Vec::with_capacity(alloc, list.len())?;
-    for group in list {
-        texts.push(group.name.as_str())?;
-    }
-    Ok(texts)
 }
 
 fn sockets_of<'a>(alloc: Global, group: &'a Group, side: Side) -> Result<Sockets<'a>, Memory>
@@ -67,14 +55,12 @@ impl<'a> Groups<'a> {
     pub(crate) fn new(alloc: Global, list: &'a [Group]) -> Result<Groups<'a>, Memory>
         ensures { IfOk result (λ groups. groups.list.now ≡ list.now) }
     {
-        let names = Names::new(alloc, names_of(alloc, list)?)?;
         let inputs = all_sockets(alloc, list, Side::Inputs)?;
         let outputs = all_sockets(alloc, list, Side::Outputs)?;
         let none = Sockets::new(alloc, &[])?;
         let measures = Measures::new(alloc, list)?;
         Ok(Groups {
             list,
-            names,
             inputs,
             outputs,
             none,
@@ -107,7 +93,7 @@ impl<'a> Groups<'a> {
         ensures { map socket_of result.now.list.now
             ≡ option_map_or (side_of side) (group_named (map group_of self.now.list.now) name.now) [] }
     {
-        let Some(place) = self.names.first(name) else {
+        let Some(place) = self.measures.names.first(name) else {
             return &self.none;
         };
         self.at(side, place)

@@ -259,7 +259,7 @@ impl<'s> Scope<'s> {
     pub(crate) fn is_above(&self, name: &str) -> bool
         ensures { result ≡ scopes.is_above (scope_of self.now) name.now }
     {
-        match self.groups.names.first(name) {
+        match self.groups.measures.names.first(name) {
             Some(place) => place < self.above,
             None => false,
         }

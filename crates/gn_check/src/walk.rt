@@ -315,7 +315,7 @@ fn in_group(
     ensures { IfOk result (λ place. option_map place_of place
         ≡ walk.in_group (breaks sought) (map group_of groups.now.list.now) number (group_of group.now)) }
 {
-    if name_breaks(sought, &groups.names, number, &group.name) {
+    if name_breaks(sought, &groups.measures.names, number, &group.name) {
         return Ok(here(alloc));
     }
     in_parts(alloc, sought, groups, number, group)

@@ -1,3 +1,4 @@
+use crate::ranks::number_of;
 use crate::targets::targets_of;
 use gn_memory::Memory;
 use std::alloc::Global;
@@ -26,14 +27,6 @@ struct ComponentSearch {
     count: usize,
     /// For each node the number of its component, once it is in one; else 0.
     components: Vec<usize>,
-}
-
-/// The number of a node; 0 for one that isn't there.
-fn number_of(numbers: &[usize], node: usize) -> usize {
-    match numbers.get(node) {
-        Some(number) => *number,
-        None => 0,
-    }
 }
 
 /// Gives a node a number, if it is there.

@@ -11,11 +11,11 @@ use gn_names::Names;
 use gn_tree::{Group, Node, Tree};
 use std::alloc::Global;
 
-/// The groups of a tree, with how high and how many their nodes are.
+/// The groups of a tree, with their names, and how high and how many their nodes are.
 #[derive(Drop)]
 pub struct Measures<'a> {
     pub groups: &'a [Group],
-    names: Names<'a>,
+    pub names: Names<'a>,
     heights: Vec<u64>,
     counts: Vec<u64>,
     ghost measured: { AreOf (map group_of groups.now) names heights.items counts.items },

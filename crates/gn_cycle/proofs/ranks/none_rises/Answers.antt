@@ -10,5 +10,5 @@ loop-node-preserved c =
     let ranks = c.args.ranks.now in
     let node = c.loop-node.node in
     let found : are_at_most ranks (rank ranks node) (targets graph node) ≡ true =
-    ap (λ limit. are_at_most ranks limit (targets graph node)) (sym c.rank_of.ensures) ∙ (ap (are_at_most ranks c.rank_of.result) (sym c.targets_of.ensures) ∙ (sym c.are_at_most.ensures ∙ c.if-not-are_at_most.false)) in
+    ap (λ limit. are_at_most ranks limit (targets graph node)) (sym c.number_of.ensures) ∙ (ap (are_at_most ranks c.number_of.result) (sym c.targets_of.ensures) ∙ (sym c.are_at_most.ensures ∙ c.if-not-are_at_most.false)) in
     one_more graph ranks node c.loop-node.invariant found

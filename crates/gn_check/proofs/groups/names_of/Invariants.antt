@@ -1,7 +1,0 @@
-use Rattle.std.proofs.Common.{◌≡◌, ◌++◌, drop, map}
-use Rattle.gn_tree.specs.Seen.{group_of}
-use Rattle.gn_rules.specs.Sockets.{group_names}
-use Rattle.gn_check.proofs.groups.names_of.Given as goal
-
-abbrev pub invariant-loop-group : goal.invariant-loop-group
-invariant-loop-group l = map (λ text. text.now) l.texts.items ++ group_names (map group_of (drop l.group-index l.list)) ≡ group_names (map group_of l.list)
