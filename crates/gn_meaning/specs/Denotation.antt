@@ -1,42 +1,100 @@
--- The value at each place of a tree.
-use Rattle.std.specs.Prelude.{◌≡◌, ℕ, zero, suc, List, [], ◌∷◌, Option, Some, None, map, slice_get, option_and_then}
-use Rattle.gn_value.specs.declared.value.Value.{Value}
-use Rattle.gn_plain.specs.Lists.{all_of}
-use Rattle.gn_tree.specs.Tree.{Node, Tree}
-use Rattle.gn_tree.specs.Kinds.{Default}
-use Rattle.gn_meaning.specs.Places.{Path, Place, at_output, at_input, at_constant, at_default, node_of, places_read}
+-- The value at each site of a tree.
+use Rattle.std.specs.Prelude.{◌≡◌, ℕ, zero, suc, pos, List, map, Option, Some, None, slice_get, option_map, option_and_then}
+use Rattle.gn_value.specs.declared.value.Value.TheVariants.{Int as int}
+use Rattle.gn_node_set.specs.Lists.{all_of}
+use Rattle.gn_lazy.specs.declared.path.PathStep.{PathStep}
+use Rattle.gn_tree.specs.NodeKinds.{Kind}
+use Rattle.gn_tree.specs.Trees.{Tree}
+use Rattle.gn_node_set.specs.Meanings.{Role, Switch, Choice, no_case, Answer, Done, Meanings, converted, selected, answer_for}
+use Rattle.gn_meaning.specs.Sites.{Constant, a_value, Way, the_tree, into, plain_step, turn_step, Site, at_output, at_input, at_item, at_constant, nowhere, Read}
+use Rattle.gn_meaning.specs.Reads.{read_at, Run, Part, a_node, a_group, a_repeat, part_at, out_of}
 
--- what the kinds of nodes do, over values of some type
-pub record Rows (V : Type 0) : Type 0 where
-  -- the outputs of a node at a path, for its inputs
-  pub row : Path → Node → List V → List V
-  pub of_constant : Value → V
-  pub of_default : Default → V
+-- what is given with a tree: what its constants are, what its own inputs are given, and the answers of files
+pub record Given (V : Type 0) : Type 0 where
+  pub constant : Constant → V
+  pub inputs : List V
+  pub files : List ℕ → Answer
 
-module _ {V : Type 0} (rows : Rows V) (t : Tree) (given : List V) where
-  -- the values at some places so far
+module _ {V S T : Type 0} (m : Meanings Kind V S T) (given : Given V) (t : Tree) where
+  -- the values at some sites so far
   abbrev pub Values : Type 0
-  Values = Place → Option V
+  Values = Site → Option V
 
-  -- an output of a node is one of its row, on the values that its inputs read
-  abbrev pub output_value : Values → Path → ℕ → Option Node → Option V
-  output_value value p s None = None
-  output_value value p s (Some x) =
-      option_and_then (λ inputs. slice_get (rows.row p x inputs) s) (all_of (map (option_and_then value) (places_read t p.way x)))
+  abbrev pub read_value : Values → Read → Option V
+  read_value value r = option_map (λ v. converted m v r.through) (value r.from)
 
-  -- a value from those of the places that it goes back to
+  abbrev pub read_values : Values → List Read → Option (List V)
+  read_values value reads = all_of (map (read_value value) reads)
+
+  -- a switch chooses by the value of its first input; no other node chooses
+  abbrev pub choice_by : Role → Kind → Option V → Option Choice
+  choice_by Switch kind value = option_map (m.choice kind) value
+  choice_by _ kind value = Some no_case
+
+  abbrev pub choice_in : Values → Run → Option Choice
+  choice_in value run = choice_by (m.role run.kind) run.kind (read_value value (read_at run.reads 0))
+
+  -- what a run gives by its kind's row, for the values of its inputs
+  abbrev pub done_for : Run → List V → Done V
+  done_for run inputs = m.row run.path run.kind inputs (answer_for (m.role run.kind) (given.files (m.file run.kind)))
+
+  -- and for those that it gets
+  abbrev pub run_done : Values → Run → Option (Done V)
+  run_done value run =
+      option_and_then (λ choice. option_map (done_for run) (read_values value (selected (m.role run.kind) choice run.reads))) (choice_in value run)
+
+  abbrev pub run_output : Values → Run → ℕ → Option V
+  run_output value run s = option_and_then (λ done. slice_get done.outputs s) (run_done value run)
+
+  abbrev pub output_value : Values → Way → ℕ → ℕ → Option Part → Option V
+  output_value value way n s None = None
+  output_value value way n s (Some (a_node run)) = run_output value run s
+  output_value value way n s (Some (a_group b reads)) = read_value value (out_of t (into way (plain_step n)) s)
+  output_value value way n s (Some (a_repeat run b)) = option_and_then (λ v. value (at_item way n (m.turns run.kind v) s)) (run_output value run 0)
+
+  -- an input of a zone's body: the turn's number, or an item
+  abbrev pub turn_value : Values → Way → ℕ → Option ℕ → ℕ → Option V
+  turn_value value way n None i = None
+  turn_value value way n (Some k) zero = Some (given.constant (a_value (int (pos k))))
+  turn_value value way n (Some k) (suc i) = value (at_item way n k i)
+
+  -- an input of the list in a node
+  abbrev pub input_value : Values → Way → PathStep → ℕ → Option Part → Option V
+  input_value value way step i None = None
+  input_value value way step i (Some (a_node run)) = None
+  input_value value way step i (Some (a_group b reads)) = read_value value (read_at reads i)
+  input_value value way step i (Some (a_repeat run b)) = turn_value value way step.node step.turn i
+
+  -- an item before the first turn; the head stands before the items
+  abbrev pub first_item : Values → ℕ → Option Part → Option V
+  first_item value i (Some (a_repeat run b)) = read_value value (read_at run.reads (suc i))
+  first_item value i _ = None
+
+  -- a value from those of the sites that it goes back to
   abbrev pub next : Values → Values
-  next value (at_output p s) = output_value value p s (node_of t p)
-  next value (at_input [] i) = slice_get given i
-  next value (at_input (_ ∷ _) i) = None
-  next value (at_constant v) = Some (rows.of_constant v)
-  next value (at_default d) = Some (rows.of_default d)
+  next value (at_output way n s) = output_value value way n s (part_at t way n)
+  next value (at_input the_tree i) = slice_get given.inputs i
+  next value (at_input (into way step) i) = input_value value way step i (part_at t way step.node)
+  next value (at_item way n zero i) = first_item value i (part_at t way n)
+  next value (at_item way n (suc k) i) = read_value value (out_of t (into way (turn_step n k)) i)
+  next value (at_constant c) = Some (given.constant c)
+  next value nowhere = None
 
-  -- a value that is found along at most k links
+  -- a value that is found along at most k steps
   abbrev pub value_within : ℕ → Values
-  value_within zero place = None
-  value_within (suc k) place = next (value_within k) place
+  value_within zero site = None
+  value_within (suc k) site = next (value_within k) site
 
-  -- v stands at the place
-  abbrev pub StandsAt : Place → V → Type 0
-  StandsAt place v = (k : ℕ) × (value_within k place ≡ Some v)
+  -- v stands at the site
+  abbrev pub StandsAt : Site → V → Type 0
+  StandsAt site v = (k : ℕ) × (value_within k site ≡ Some v)
+
+  -- what a run chooses, what it gives with its warnings, and one of its outputs
+  abbrev pub Chooses : Run → Choice → Type 0
+  Chooses run choice = (k : ℕ) × (choice_in (value_within k) run ≡ Some choice)
+
+  abbrev pub Ends : Run → Done V → Type 0
+  Ends run done = (k : ℕ) × (run_done (value_within k) run ≡ Some done)
+
+  abbrev pub Gives : Run → ℕ → V → Type 0
+  Gives run s v = (k : ℕ) × (run_output (value_within k) run s ≡ Some v)

@@ -1,3 +1,5 @@
-pub mod Places
+pub mod Sites
+pub mod Bodies
+pub mod Reads
 pub mod Denotation
 pub mod Demand

@@ -1,4 +1,3 @@
-pub mod Lists
 pub mod Edges
 pub mod Geometry
 pub mod Topology

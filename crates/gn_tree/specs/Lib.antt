@@ -1,6 +1,7 @@
 pub mod Tree
 pub mod Kinds
 pub mod Trees
+pub mod NodeKinds
 pub mod Rising
 pub mod Coding
 pub mod Seen

@@ -1,11 +1,16 @@
 -- Links and nodes, and what the kinds of nodes do.
-use Rattle.std.specs.Prelude.{◌≡◌, ◌⊎◌, ℕ, List, [], ◌∷◌, ◌++◌, Option, Bool}
-use Rattle.gn_exec_laws.specs.Paths.{Path}
+use Rattle.std.specs.Prelude.{◌≡◌, ◌⊎◌, ℕ, zero, suc, List, [], ◌∷◌, ◌++◌, Option, Some, None, Bool}
+use Rattle.gn_node_set.specs.Paths.{Path}
 
 -- one of the members is x
 abbrev pub Has : {X : Type 0} → List X → X → Type 0
 Has [] x = ⊥
 Has (y ∷ ys) x = (x ≡ y) ⊎ Has ys x
+
+-- no member stands in the list twice
+abbrev pub AllDiffer : {X : Type 0} → List X → Type 0
+AllDiffer [] = Unit {0}
+AllDiffer (x ∷ xs) = (¬ Has xs x) × AllDiffer xs
 
 -- a source of values: a value itself, or an output of the node at a path; inside a zone also one of the zone's items, by its number
 pub data Source (V : Type 0) : Type 0 where
@@ -38,9 +43,48 @@ pub record Opened (K V : Type 0) : Type 0 where
 pub data Role : Type 0 where
   Plain Switch File Zone : Role
 
--- a switch reads its first value, its second one, or both
+-- what a switch reads behind its index: the case of a number, all cases, or none
 pub data Choice : Type 0 where
-  First Second Both : Choice
+  one_case : ℕ → Choice
+  all_cases no_case : Choice
+
+-- the first member, and the others
+abbrev pub head_of : {A : Type 0} → List A → List A
+head_of [] = []
+head_of (x ∷ xs) = x ∷ []
+
+abbrev pub tail_of : {A : Type 0} → List A → List A
+tail_of [] = []
+tail_of (x ∷ xs) = xs
+
+-- the member of a number from 0, as a list; past the end it is empty
+abbrev pub member : {A : Type 0} → List A → ℕ → List A
+member [] n = []
+member (x ∷ xs) zero = x ∷ []
+member (x ∷ xs) (suc n) = member xs n
+
+-- of a switch's cases those that it reads
+abbrev pub chosen : {A : Type 0} → Choice → List A → List A
+chosen (one_case n) xs = member xs n
+chosen all_cases xs = xs
+chosen no_case xs = []
+
+-- of a node's inputs those that its run gets: of a switch the index and what it chooses, of a zone the head
+abbrev pub selected : {A : Type 0} → Role → Choice → List A → List A
+selected Switch choice [] = []
+selected Switch choice (x ∷ xs) = x ∷ chosen choice xs
+selected Zone choice xs = head_of xs
+selected _ choice xs = xs
+
+-- of these the ones that the run gets whatever is chosen, and the ones that a choice adds
+abbrev pub first_read : {A : Type 0} → Role → List A → List A
+first_read Switch xs = head_of xs
+first_read Zone xs = head_of xs
+first_read _ xs = xs
+
+abbrev pub then_read : {A : Type 0} → Role → Choice → List A → List A
+then_read Switch choice xs = chosen choice (tail_of xs)
+then_read _ choice xs = []
 
 -- what an import gets for its file
 pub data Answer : Type 0 where
@@ -50,6 +94,11 @@ pub data Answer : Type 0 where
 pub record Warning : Type 0 where
   pub path : Path
   pub text : List ℕ
+
+-- an import gets an answer, no other node does
+abbrev pub answer_for : Role → Answer → Option Answer
+answer_for File answer = Some answer
+answer_for _ answer = None
 
 -- what a node hands in when it was run
 pub record Done (V : Type 0) : Type 0 where
@@ -61,11 +110,13 @@ pub record Meanings (K V S T : Type 0) : Type 0 where
   pub role : K → Role
   -- the file that an import reads
   pub file : K → List ℕ
-  -- what a switch reads, by its condition
+  -- what a switch reads, by its index
   pub choice : K → V → Choice
   -- the outputs and warnings of the node at a path, for its inputs and for its file's answer
   pub row : Path → K → List V → Option Answer → Done V
-  -- what a zone at a path opens, by the output of its run
+  -- how often a zone turns, by the output of its run
+  pub turns : K → V → ℕ
+  -- what a zone at a path opens, by that output
   pub opens : Path → K → V → Opened K V
   -- a value that a link converts to a kind
   pub convert : V → ℕ → V
@@ -82,3 +133,9 @@ pub record Meanings (K V S T : Type 0) : Type 0 where
   pub tag : V → Path → Option T
   -- read where there is no output; no graph that fits reads it
   pub nothing : V
+
+module _ {K V S T : Type 0} (m : Meanings K V S T) where
+  -- a value after conversions to these kinds in turn
+  abbrev pub converted : V → List ℕ → V
+  converted v [] = v
+  converted v (kind ∷ kinds) = converted (m.convert v kind) kinds

@@ -1,0 +1,8 @@
+//! The words in which trees, rows of kinds and the executor speak of nodes.
+//!
+//! A node has a path, links carry values to it, and what its kind does is one record, `Meanings`: its
+//! role, its row, what a switch chooses, what a zone opens, and the sorts of its inputs and outputs.
+//! The meaning of trees, the rows of the kinds and the laws of the executor take this one record, so
+//! that they speak of the same thing. The crate holds definitions alone, and stands on `gn_lazy`, whose
+//! paths these are.
+#![tactic(auto)]
