@@ -5,7 +5,7 @@ use Rattle.gn_node_set.specs.Lists.{all_of}
 use Rattle.gn_lazy.specs.declared.path.PathStep.{PathStep}
 use Rattle.gn_tree.specs.NodeKinds.{Kind}
 use Rattle.gn_tree.specs.Trees.{Tree}
-use Rattle.gn_node_set.specs.Meanings.{Role, Switch, Choice, no_case, Answer, Done, Meanings, converted, selected, answer_for}
+use Rattle.gn_node_set.specs.Meanings.{Role, Switch, Choice, no_case, Answer, Done, Rows, converted, selected, answer_for}
 use Rattle.gn_meaning.specs.Sites.{Constant, a_value, Way, the_tree, into, plain_step, turn_step, Site, at_output, at_input, at_item, at_constant, nowhere, Read}
 use Rattle.gn_meaning.specs.Reads.{read_at, Run, Part, a_node, a_group, a_repeat, part_at, out_of}
 
@@ -15,33 +15,33 @@ pub record Given (V : Type 0) : Type 0 where
   pub inputs : List V
   pub files : List ℕ → Answer
 
-module _ {V S T : Type 0} (m : Meanings Kind V S T) (given : Given V) (t : Tree) where
+module _ {V : Type 0} (rows : Rows Kind V) (given : Given V) (t : Tree) where
   -- the values at some sites so far
   abbrev pub Values : Type 0
   Values = Site → Option V
 
   abbrev pub read_value : Values → Read → Option V
-  read_value value r = option_map (λ v. converted m v r.through) (value r.from)
+  read_value value r = option_map (λ v. converted rows v r.through) (value r.from)
 
   abbrev pub read_values : Values → List Read → Option (List V)
   read_values value reads = all_of (map (read_value value) reads)
 
   -- a switch chooses by the value of its first input; no other node chooses
   abbrev pub choice_by : Role → Kind → Option V → Option Choice
-  choice_by Switch kind value = option_map (m.choice kind) value
+  choice_by Switch kind value = option_map (rows.choice kind) value
   choice_by _ kind value = Some no_case
 
   abbrev pub choice_in : Values → Run → Option Choice
-  choice_in value run = choice_by (m.role run.kind) run.kind (read_value value (read_at run.reads 0))
+  choice_in value run = choice_by (rows.role run.kind) run.kind (read_value value (read_at run.reads 0))
 
   -- what a run gives by its kind's row, for the values of its inputs
   abbrev pub done_for : Run → List V → Done V
-  done_for run inputs = m.row run.path run.kind inputs (answer_for (m.role run.kind) (given.files (m.file run.kind)))
+  done_for run inputs = rows.row run.path run.kind inputs (answer_for (rows.role run.kind) (given.files (rows.file run.kind)))
 
   -- and for those that it gets
   abbrev pub run_done : Values → Run → Option (Done V)
   run_done value run =
-      option_and_then (λ choice. option_map (done_for run) (read_values value (selected (m.role run.kind) choice run.reads))) (choice_in value run)
+      option_and_then (λ choice. option_map (done_for run) (read_values value (selected (rows.role run.kind) choice run.reads))) (choice_in value run)
 
   abbrev pub run_output : Values → Run → ℕ → Option V
   run_output value run s = option_and_then (λ done. slice_get done.outputs s) (run_done value run)
@@ -50,7 +50,7 @@ module _ {V S T : Type 0} (m : Meanings Kind V S T) (given : Given V) (t : Tree)
   output_value value way n s None = None
   output_value value way n s (Some (a_node run)) = run_output value run s
   output_value value way n s (Some (a_group b reads)) = read_value value (out_of t (into way (plain_step n)) s)
-  output_value value way n s (Some (a_repeat run b)) = option_and_then (λ v. value (at_item way n (m.turns run.kind v) s)) (run_output value run 0)
+  output_value value way n s (Some (a_repeat run b)) = option_and_then (λ v. value (at_item way n (rows.turns run.kind v) s)) (run_output value run 0)
 
   -- an input of a zone's body: the turn's number, or an item
   abbrev pub turn_value : Values → Way → ℕ → Option ℕ → ℕ → Option V

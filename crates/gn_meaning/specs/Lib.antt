@@ -1,5 +1,6 @@
 pub mod Sites
 pub mod Bodies
 pub mod Reads
+pub mod Origins
 pub mod Denotation
 pub mod Demand

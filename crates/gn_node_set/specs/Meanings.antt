@@ -105,8 +105,8 @@ pub record Done (V : Type 0) : Type 0 where
   pub outputs : List V
   pub warnings : List Warning
 
--- what a set of nodes means, over kinds K, values V, sorts of values S, and sources T of sampled fields
-pub record Meanings (K V S T : Type 0) : Type 0 where
+-- what the kinds of nodes do, over kinds K and values V
+pub record Rows (K V : Type 0) : Type 0 where
   pub role : K → Role
   -- the file that an import reads
   pub file : K → List ℕ
@@ -116,12 +116,16 @@ pub record Meanings (K V S T : Type 0) : Type 0 where
   pub row : Path → K → List V → Option Answer → Done V
   -- how often a zone turns, by the output of its run
   pub turns : K → V → ℕ
-  -- what a zone at a path opens, by that output
-  pub opens : Path → K → V → Opened K V
   -- a value that a link converts to a kind
   pub convert : V → ℕ → V
+
+-- what a set of nodes means to an executor, over sorts of values S, and sources T of sampled fields
+pub record Meanings (K V S T : Type 0) : Type 0 where
+  pub rows : Rows K V
+  -- what a zone at a path opens, by the output of its run
+  pub opens : Path → K → V → Opened K V
   pub sort : V → S
-  -- the sort after such a conversion
+  -- the sort after a conversion to a kind
   pub shift : S → ℕ → Option S
   -- may the inputs of a node have these sorts in order?
   pub fits : K → List S → Bool
@@ -134,8 +138,8 @@ pub record Meanings (K V S T : Type 0) : Type 0 where
   -- read where there is no output; no graph that fits reads it
   pub nothing : V
 
-module _ {K V S T : Type 0} (m : Meanings K V S T) where
+module _ {K V : Type 0} (rows : Rows K V) where
   -- a value after conversions to these kinds in turn
   abbrev pub converted : V → List ℕ → V
   converted v [] = v
-  converted v (kind ∷ kinds) = converted (m.convert v kind) kinds
+  converted v (kind ∷ kinds) = converted (rows.convert v kind) kinds
