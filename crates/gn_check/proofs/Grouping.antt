@@ -21,16 +21,16 @@ has_none f None e = refl
 has_none f (Some a) e = absurd (cc)
 
 module _ {G : Type 0} (f : G → List t.Socket) where
-  same_place : (all : List Sockets) (gs : List G) (i : ℕ) → lists_in all ≡ map f gs → option_map f (slice_get gs i) ≡ option_map list_of (slice_get all i)
+  same_position : (all : List Sockets) (gs : List G) (i : ℕ) → lists_in all ≡ map f gs → option_map f (slice_get gs i) ≡ option_map list_of (slice_get all i)
   unfolding list_of
-  same_place all gs i e = sym (slice_get-map f gs i) ∙ (ap (λ xs. slice_get xs i) (sym e) ∙ slice_get-map list_of all i)
+  same_position all gs i e = sym (slice_get-map f gs i) ∙ (ap (λ xs. slice_get xs i) (sym e) ∙ slice_get-map list_of all i)
 
-  pub at_place : (all : List Sockets) (gs : List G) (i : ℕ) (x : Sockets) → lists_in all ≡ map f gs → i < length all → x ≡ get_or all i x → map socket_of x.list.now ≡ option_map_or f (slice_get gs i) []
+  pub at_position : (all : List Sockets) (gs : List G) (i : ℕ) (x : Sockets) → lists_in all ≡ map f gs → i < length all → x ≡ get_or all i x → map socket_of x.list.now ≡ option_map_or f (slice_get gs i) []
   unfolding list_of
-  at_place all gs i x e h r = has_one f (slice_get gs i) (list_of x) (same_place all gs i e ∙ (ap (option_map list_of) (slice_get-get_or all i x h) ∙ ap (λ y. Some (list_of y)) (sym r)))
+  at_position all gs i x e h r = has_one f (slice_get gs i) (list_of x) (same_position all gs i e ∙ (ap (option_map list_of) (slice_get-get_or all i x h) ∙ ap (λ y. Some (list_of y)) (sym r)))
 
-  pub past_place : (all : List Sockets) (gs : List G) (i : ℕ) (none : Sockets) → lists_in all ≡ map f gs → length all ≤ i → none.list.now ≡ [] → map socket_of none.list.now ≡ option_map_or f (slice_get gs i) []
-  past_place all gs i none e h r = ap (map socket_of) r ∙ has_none f (slice_get gs i) (same_place all gs i e ∙ ap (option_map list_of) (slice_get_past all i h))
+  pub past_position : (all : List Sockets) (gs : List G) (i : ℕ) (none : Sockets) → lists_in all ≡ map f gs → length all ≤ i → none.list.now ≡ [] → map socket_of none.list.now ≡ option_map_or f (slice_get gs i) []
+  past_position all gs i none e h r = ap (map socket_of) r ∙ has_none f (slice_get gs i) (same_position all gs i e ∙ ap (option_map list_of) (slice_get_past all i h))
 
 -- a node by its number, in both ways of writing lists of nodes
 pub node_at_seen : (xs : List t.Node) (i : ℕ) → node_at (nodes_of xs) i ≡ slice_get xs i

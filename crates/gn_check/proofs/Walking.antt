@@ -6,9 +6,9 @@ use Rattle.std.specs.declared.alloc.Global.{Global}
 use Rattle.std.specs.declared.collections.VecDeque.{VecDeque}
 use Rattle.std.proofs.lemmas.List.{drop_more}
 use Rattle.gn_memory.specs.declared.Memory.{Memory}
-use Rattle.gn_places.specs.Place.{Step, index, key, Place, joined}
-use Rattle.gn_places.specs.Seen.{place_of}
-use Rattle.gn_places.specs.declared.step.Step.{Step as CodeStep}
+use Rattle.gn_pointers.specs.Pointers.{Step, index, key, Pointer, joined}
+use Rattle.gn_pointers.specs.Seen.{pointer_of}
+use Rattle.gn_pointers.specs.declared.step.Step.{Step as CodeStep}
 use Rattle.gn_tree.specs.Trees.{Tree, Input, Group, Socket, Named, Nodes, Node, node, node_size, Settings, settings_size, nodes_size, no_settings}
 use Rattle.gn_tree.specs.Seen.{socket_of, group_of, named_of, nodes_of, setting_then, settings_of}
 use Rattle.gn_tree.specs.declared.tree.Setting.{Setting}
@@ -31,31 +31,31 @@ Found = Option (VecDeque CodeStep Global)
 abbrev pub Answer : Type 0
 Answer = Result Found Memory
 
--- an answer is a place
-abbrev pub Is : Answer → Option Place → Type 0
-Is r place = IfOk r (λ found. option_map place_of found ≡ place)
+-- an answer is a pointer
+abbrev pub Is : Answer → Option Pointer → Type 0
+Is r pointer = IfOk r (λ found. option_map pointer_of found ≡ pointer)
 
-pub is_same : (r : Answer) (x y : Option Place) → x ≡ y → Is r x → Is r y
+pub is_same : (r : Answer) (x y : Option Pointer) → x ≡ y → Is r x → Is r y
 is_same (Ok found) x y e h = h ∙ e
 is_same (Err m) x y e h = tt
 
-first_wins : (k : Step) (found : Found) (rest : Option Place) → is_some found ≡ true → joined k (option_map place_of found) None ≡ joined k (option_map place_of found) rest
+first_wins : (k : Step) (found : Found) (rest : Option Pointer) → is_some found ≡ true → joined k (option_map pointer_of found) None ≡ joined k (option_map pointer_of found) rest
 first_wins k None rest h = absurd (cc)
-first_wins k (Some place) rest h = refl
+first_wins k (Some pointer) rest h = refl
 
-next_goes : (k : Step) (found : Found) (rest : Option Place) → is_some found ≡ false → rest ≡ joined k (option_map place_of found) rest
+next_goes : (k : Step) (found : Found) (rest : Option Pointer) → is_some found ≡ false → rest ≡ joined k (option_map pointer_of found) rest
 next_goes k None rest h = refl
-next_goes k (Some place) rest h = absurd (cc)
+next_goes k (Some pointer) rest h = absurd (cc)
 
 -- what was found in the first of two parts, or in the second where nothing was found in the first
-pub in_first : (k : Step) (found : Found) (first rest all : Option Place) (r : Answer) → is_some found ≡ true → option_map place_of found ≡ first → all ≡ joined k first rest → Is r (joined k (option_map place_of found) None) → Is r all
-in_first k found first rest all r h e a i = is_same r (joined k (option_map place_of found) None) all (first_wins k found rest h ∙ (ap (λ x. joined k x rest) e ∙ sym a)) i
+pub in_first : (k : Step) (found : Found) (first rest all : Option Pointer) (r : Answer) → is_some found ≡ true → option_map pointer_of found ≡ first → all ≡ joined k first rest → Is r (joined k (option_map pointer_of found) None) → Is r all
+in_first k found first rest all r h e a i = is_same r (joined k (option_map pointer_of found) None) all (first_wins k found rest h ∙ (ap (λ x. joined k x rest) e ∙ sym a)) i
 
-pub in_rest : (k : Step) (found : Found) (first rest all : Option Place) (r : Answer) → is_some found ≡ false → option_map place_of found ≡ first → all ≡ joined k first rest → Is r rest → Is r all
+pub in_rest : (k : Step) (found : Found) (first rest all : Option Pointer) (r : Answer) → is_some found ≡ false → option_map pointer_of found ≡ first → all ≡ joined k first rest → Is r rest → Is r all
 in_rest k found first rest all r h e a i = is_same r rest all (next_goes k found rest h ∙ (ap (λ x. joined k x rest) e ∙ sym a)) i
 
-pub in_last : (k : Step) (found : Found) (last : Option Place) (r : Answer) → option_map place_of found ≡ last → Is r (joined k (option_map place_of found) None) → Is r (joined k last None)
-in_last k found last r e i = is_same r (joined k (option_map place_of found) None) (joined k last None) (ap (λ x. joined k x None) e) i
+pub in_last : (k : Step) (found : Found) (last : Option Pointer) (r : Answer) → option_map pointer_of found ≡ last → Is r (joined k (option_map pointer_of found) None) → Is r (joined k last None)
+in_last k found last r e i = is_same r (joined k (option_map pointer_of found) None) (joined k last None) (ap (λ x. joined k x None) e) i
 
 -- ---- nodes
 
@@ -124,10 +124,10 @@ group_next w all xs i x h e =
     ∙ ap (λ n. joined (index i) (in_group (breaks w) all i (group_of x)) (first_group (breaks w) all n (map group_of (drop (i + 1) xs)))) more)
 
 -- the rest where nothing was found
-pub rest_alone : (k : Step) (found : Found) (first rest : Option Place) → is_some found ≡ false → option_map place_of found ≡ first → joined k first rest ≡ rest
+pub rest_alone : (k : Step) (found : Found) (first rest : Option Pointer) → is_some found ≡ false → option_map pointer_of found ≡ first → joined k first rest ≡ rest
 rest_alone k found first rest h e = ap (λ x. joined k x rest) (sym e) ∙ sym (next_goes k found rest h)
 
-pub results_way : (w v : Sought) (sc : Scope) (outs : List Socket) (xs : List Named) (found : Option Place) → v ≡ w → found ≡ in_given_out (breaks v) sc outs xs → found ≡ in_given_out (breaks w) sc outs xs
+pub results_way : (w v : Sought) (sc : Scope) (outs : List Socket) (xs : List Named) (found : Option Pointer) → v ≡ w → found ≡ in_given_out (breaks v) sc outs xs → found ≡ in_given_out (breaks w) sc outs xs
 results_way w v sc outs xs found e f = f ∙ ap (λ p. in_given_out (breaks p) sc outs xs) e
 
 pub scope_way : (gs : List Group) (i : ℕ) (g : Group) (inputs : List Socket) (sc : Scope) → inputs ≡ g.inputs → sc ≡ record { nodes = g.nodes; entries = map one_of inputs; groups = gs; above = i } → sc ≡ group_scope gs i g
@@ -140,10 +140,10 @@ tree_scope_way t gs a sc e n f =
     f ∙ (ap (λ m. record { nodes = t.nodes; entries = tree_entries; groups = gs; above = m }) n
     ∙ ap (λ xs. record { nodes = t.nodes; entries = tree_entries; groups = xs; above = length xs }) e)
 
-abbrev pub own_nodes : Sought → Tree → Option Place
+abbrev pub own_nodes : Sought → Tree → Option Pointer
 own_nodes w t = joined (key (codes "nodes")) (this_or (breaks w) (all_nodes t) (first_node (breaks w) (tree_scope t) 0 t.nodes)) (in_output (breaks w) (tree_scope t) t.output)
 
-pub own_nodes_break : (w : Sought) (t : Tree) (found : Found) → breaks_all w t ≡ true → option_map place_of found ≡ Some [] → joined (key (codes "nodes")) (option_map place_of found) None ≡ own_nodes w t
+pub own_nodes_break : (w : Sought) (t : Tree) (found : Found) → breaks_all w t ≡ true → option_map pointer_of found ≡ Some [] → joined (key (codes "nodes")) (option_map pointer_of found) None ≡ own_nodes w t
 own_nodes_break w t found e f = ap (λ x. joined (key (codes "nodes")) x None) f ∙ sym (rw e)
 
 pub own_nodes_keep : (w : Sought) (t : Tree) → breaks_all w t ≡ false → in_body (breaks w) t ≡ own_nodes w t

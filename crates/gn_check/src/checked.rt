@@ -1,5 +1,5 @@
 ghost use Rattle.std.specs.Prelude.{◌≡◌, IfOk, option_map};
-ghost use Rattle.gn_places.specs.Seen.{place_of};
+ghost use Rattle.gn_pointers.specs.Seen.{pointer_of};
 ghost use Rattle.gn_tree.specs.Rising.{NamesRiseInTree};
 ghost use Rattle.gn_tree.specs.Seen.{tree_of};
 ghost use Rattle.gn_rules.specs.Walk as walk;
@@ -11,7 +11,7 @@ use crate::good::GoodTree;
 use crate::groups::Groups;
 use crate::walk::in_tree;
 use gn_memory::Memory;
-use gn_places::{Step, place_text};
+use gn_pointers::{Step, pointer_string};
 use gn_rules::{Rule, Sought};
 use gn_tree::Tree;
 use std::alloc::Global;
@@ -27,7 +27,7 @@ static RULES: [Rule; 6] = [
     Rule::Count,
 ];
 
-/// The first of these rules that the tree breaks, with the first place where it does.
+/// The first of these rules that the tree breaks, with the first pointer where it does.
 fn first_of(
     alloc: Global,
     tree: &Tree,
@@ -35,19 +35,19 @@ fn first_of(
     rules: &[Rule],
 ) -> Result<Option<(Rule, VecDeque<Step>)>, Memory>
     requires { groups.now.list.now ≡ tree.now.groups.items }
-    ensures { IfOk result (λ found. option_map (λ x. (x.0, place_of x.1)) found ≡ walk.named_from (tree_of tree.now) rules.now) }
+    ensures { IfOk result (λ found. option_map (λ x. (x.0, pointer_of x.1)) found ≡ walk.named_from (tree_of tree.now) rules.now) }
 {
     for rule in rules {
-        if let Some(place) = in_tree(alloc, Sought::Only(*rule), tree, groups)? {
-            return Ok(Some((*rule, place)));
+        if let Some(pointer) = in_tree(alloc, Sought::Only(*rule), tree, groups)? {
+            return Ok(Some((*rule, pointer)));
         }
     }
     Ok(None)
 }
 
-/// The least rule that the tree breaks, with the first place where it does.
+/// The least rule that the tree breaks, with the first pointer where it does.
 fn first_broken(alloc: Global, tree: &Tree) -> Result<Option<(Rule, VecDeque<Step>)>, Memory>
-    ensures { IfOk result (λ found. option_map (λ x. (x.0, place_of x.1)) found ≡ walk.named (tree_of tree.now)) }
+    ensures { IfOk result (λ found. option_map (λ x. (x.0, pointer_of x.1)) found ≡ walk.named (tree_of tree.now)) }
 {
     let groups = Groups::new(alloc, &tree.groups)?;
     let found = in_tree(alloc, Sought::Any, tree, &groups)?;
@@ -57,18 +57,18 @@ fn first_broken(alloc: Global, tree: &Tree) -> Result<Option<(Rule, VecDeque<Ste
     Ok(None)
 }
 
-/// The tree, or the number and the place of the rule that was found.
+/// The tree, or the number and the pointer of the rule that was found.
 fn judge(
     alloc: Global,
     tree: Tree,
     found: Result<Option<(Rule, VecDeque<Step>)>, Memory>,
 ) -> Result<GoodTree, CheckFault>
-    requires { IfOk found (λ named. Tells (tree_of tree) (option_map (λ x. (x.0, place_of x.1)) named)) }
+    requires { IfOk found (λ named. Tells (tree_of tree) (option_map (λ x. (x.0, pointer_of x.1)) named)) }
     ensures { Answers (tree_of tree) result }
 {
     match found {
         Ok(None) => Ok(GoodTree { tree }),
-        Ok(Some((rule, place))) => match place_text(alloc, &place) {
+        Ok(Some((rule, pointer))) => match pointer_string(alloc, &pointer) {
             Ok(place) => Err(CheckFault::Form {
                 place,
                 rule: rule.number(),
@@ -85,7 +85,7 @@ fn judge(
 ///
 /// # Errors
 ///
-/// `Form` with the least rule that the tree breaks, by its number, and the first place where it does,
+/// `Form` with the least rule that the tree breaks, by its number, and the first pointer where it does,
 /// a JSON Pointer: an object stands before its members, arrays go by index, keys by bytes. `Memory`
 /// where there was no memory.
 pub fn check(alloc: Global, tree: Tree) -> Result<GoodTree, CheckFault>

@@ -77,13 +77,13 @@ impl<'a> Groups<'a> {
         }
     }
 
-    fn at(&self, side: Side, place: usize) -> &Sockets<'a>
+    fn at(&self, side: Side, position: usize) -> &Sockets<'a>
         ensures { map socket_of result.now.list.now
-            ≡ option_map_or (side_of side) (slice_get (map group_of self.now.list.now) place) [] }
+            ≡ option_map_or (side_of side) (slice_get (map group_of self.now.list.now) position) [] }
     {
         let all = self.side(side);
-        if place < all.len() {
-            return &all[place];
+        if position < all.len() {
+            return &all[position];
         }
         &self.none
     }
@@ -93,9 +93,9 @@ impl<'a> Groups<'a> {
         ensures { map socket_of result.now.list.now
             ≡ option_map_or (side_of side) (group_named (map group_of self.now.list.now) name.now) [] }
     {
-        let Some(place) = self.measures.names.first(name) else {
+        let Some(position) = self.measures.names.first(name) else {
             return &self.none;
         };
-        self.at(side, place)
+        self.at(side, position)
     }
 }

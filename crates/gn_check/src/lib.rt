@@ -1,6 +1,6 @@
 //! The check of a tree by the rules F2 to F7.
 //!
-//! `check` promises the least rule that a tree breaks with the first place where it does, or a
+//! `check` promises the least rule that a tree breaks with the first pointer where it does, or a
 //! `GoodTree`, which keeps all of them. It goes through the tree once with all rules, and again rule by
 //! rule only where one is broken. Names are looked up in a map that is made for each list: no link and
 //! no key costs a walk over a list. It stands on the rules of `gn_rules`, on the trees of `gn_tree`,

@@ -260,7 +260,7 @@ impl<'s> Scope<'s> {
         ensures { result ≡ scopes.is_above (scope_of self.now) name.now }
     {
         match self.groups.measures.names.first(name) {
-            Some(place) => place < self.above,
+            Some(position) => position < self.above,
             None => false,
         }
     }

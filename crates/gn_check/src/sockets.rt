@@ -159,7 +159,7 @@ impl<'a> Sockets<'a> {
         ensures { result ≡ rule.declared (map rule.one_of (map socket_of self.now.list.now)) name.now }
     {
         match self.names.first(name) {
-            Some(place) => match self.list.get(place) {
+            Some(position) => match self.list.get(position) {
                 Some(socket) => Some(single(socket.kind)),
                 None => None,
             },

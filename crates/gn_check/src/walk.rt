@@ -1,6 +1,6 @@
 ghost use Rattle.std.specs.Prelude.{◌≡◌, None, Some, [], IfOk, map, option_map, slice_get};
-ghost use Rattle.gn_places.specs.Place.{key, index, joined};
-ghost use Rattle.gn_places.specs.Seen.{step_of, place_of};
+ghost use Rattle.gn_pointers.specs.Pointers.{key, index, joined};
+ghost use Rattle.gn_pointers.specs.Seen.{step_of, pointer_of};
 ghost use Rattle.gn_tree.specs.Seen.{group_of, input_of, link_of, named_of, nodes_of, settings_of, socket_of, tree_of};
 ghost use Rattle.gn_rules.specs.Walk as walk;
 ghost use Rattle.gn_rules.specs.Walk.{breaks};
@@ -17,45 +17,45 @@ use crate::setting::{group_set, zone_set};
 use crate::sockets::{Sockets, single};
 use gn_kinds::SocketKind;
 use gn_memory::Memory;
-use gn_places::Step;
+use gn_pointers::Step;
 use gn_rules::{Shape, Sought};
 use gn_tree::{Group, Node, Setting, Tree, TreeInput, TreeLink, Zone};
 use std::alloc::Global;
 use std::collections::VecDeque;
 
-/// A place that was found under that number of an array.
+/// A pointer that was found under that number of an array.
 fn at_number(found: Option<VecDeque<Step>>, number: usize) -> Result<Option<VecDeque<Step>>, Memory>
-    ensures { IfOk result (λ place. option_map place_of place ≡ joined (index number) (option_map place_of found) None) }
+    ensures { IfOk result (λ pointer. option_map pointer_of pointer ≡ joined (index number) (option_map pointer_of found) None) }
 {
     match found {
-        Some(mut place) => {
-            place.push_front(Step::Index(number as u64))?;
-            Ok(Some(place))
+        Some(mut pointer) => {
+            pointer.push_front(Step::Index(number as u64))?;
+            Ok(Some(pointer))
         }
         None => Ok(None),
     }
 }
 
-/// A place that was found under that key of an object.
+/// A pointer that was found under that key of an object.
 fn at_key(
     alloc: Global,
     found: Option<VecDeque<Step>>,
     name: &str,
 ) -> Result<Option<VecDeque<Step>>, Memory>
-    ensures { IfOk result (λ place. option_map place_of place ≡ joined (key name.now) (option_map place_of found) None) }
+    ensures { IfOk result (λ pointer. option_map pointer_of pointer ≡ joined (key name.now) (option_map pointer_of found) None) }
 {
     match found {
-        Some(mut place) => {
-            place.push_front(Step::Key(String::from_str(alloc, name)?))?;
-            Ok(Some(place))
+        Some(mut pointer) => {
+            pointer.push_front(Step::Key(String::from_str(alloc, name)?))?;
+            Ok(Some(pointer))
         }
         None => Ok(None),
     }
 }
 
-/// The place of a value itself.
+/// The pointer of a value itself.
 fn here(alloc: Global) -> Option<VecDeque<Step>>
-    ensures { option_map place_of result ≡ Some [] }
+    ensures { option_map pointer_of result ≡ Some [] }
 {
     Some(VecDeque::new(alloc))
 }
@@ -65,7 +65,7 @@ fn first_link(
     scope: &Scope<'_>,
     links: &[TreeLink],
 ) -> Result<Option<VecDeque<Step>>, Memory>
-    ensures { IfOk result (λ place. option_map place_of place
+    ensures { IfOk result (λ pointer. option_map pointer_of pointer
         ≡ walk.first_link (breaks scope.now.sought) (scope_of scope.now) 0 (map link_of links.now)) }
 {
     let mut number: usize = 0;
@@ -84,7 +84,7 @@ fn in_input(
     shape: Option<Shape>,
     input: &TreeInput,
 ) -> Result<Option<VecDeque<Step>>, Memory>
-    ensures { IfOk result (λ place. option_map place_of place
+    ensures { IfOk result (λ pointer. option_map pointer_of pointer
         ≡ walk.in_input (breaks scope.now.sought) (scope_of scope.now) shape (input_of input.now)) }
 {
     if input_breaks(scope, shape, input) {
@@ -97,14 +97,14 @@ fn in_input(
     }
 }
 
-/// The first place among inputs under the names of sockets, of which these are declared.
+/// The first pointer among inputs under the names of sockets, of which these are declared.
 fn first_input(
     alloc: Global,
     scope: &Scope<'_>,
     declared: &Inputs<'_>,
     inputs: &[(String, TreeInput)],
 ) -> Result<Option<VecDeque<Step>>, Memory>
-    ensures { IfOk result (λ place. option_map place_of place
+    ensures { IfOk result (λ pointer. option_map pointer_of pointer
         ≡ walk.first_input (breaks scope.now.sought) (scope_of scope.now) (declared_by declared.now) (map named_of inputs.now)) }
 {
     for (name, input) in inputs {
@@ -116,14 +116,14 @@ fn first_input(
     Ok(None)
 }
 
-/// The first place in what is given out by the names of these sockets.
+/// The first pointer in what is given out by the names of these sockets.
 fn in_output(
     alloc: Global,
     scope: &Scope<'_>,
     sockets: &Sockets<'_>,
     output: &[(String, TreeInput)],
 ) -> Result<Option<VecDeque<Step>>, Memory>
-    ensures { IfOk result (λ place. option_map place_of place
+    ensures { IfOk result (λ pointer. option_map pointer_of pointer
         ≡ walk.in_given_out (breaks scope.now.sought) (scope_of scope.now) (map socket_of sockets.now.list.now) (map named_of output.now)) }
 {
     let declared = Inputs {
@@ -139,7 +139,7 @@ fn in_sockets(
     sought: Sought,
     sockets: &Sockets<'_>,
 ) -> Result<Option<VecDeque<Step>>, Memory>
-    ensures { IfOk result (λ place. option_map place_of place
+    ensures { IfOk result (λ pointer. option_map pointer_of pointer
         ≡ walk.in_sockets (breaks sought) (map socket_of sockets.now.list.now)) }
 {
     let mut number: usize = 0;
@@ -157,7 +157,7 @@ fn in_group_name(
     scope: &Scope<'_>,
     name: &str,
 ) -> Result<Option<VecDeque<Step>>, Memory>
-    ensures { IfOk result (λ place. option_map place_of place
+    ensures { IfOk result (λ pointer. option_map pointer_of pointer
         ≡ walk.in_group_name (breaks scope.now.sought) (scope_of scope.now) name.now) }
 {
     if group_name_breaks(scope, name) {
@@ -166,10 +166,10 @@ fn in_group_name(
     Ok(None)
 }
 
-/// The first place in a list of nodes.
+/// The first pointer in a list of nodes.
 #[cycle(walk)]
 fn first_node(alloc: Global, scope: &Scope<'_>) -> Result<Option<VecDeque<Step>>, Memory>
-    ensures { IfOk result (λ place. option_map place_of place
+    ensures { IfOk result (λ pointer. option_map pointer_of pointer
         ≡ walk.first_node (breaks scope.now.sought) (scope_of scope.now) 0 (nodes_of scope.now.nodes.now.items)) }
 {
     let mut number: usize = 0;
@@ -183,7 +183,7 @@ fn first_node(alloc: Global, scope: &Scope<'_>) -> Result<Option<VecDeque<Step>>
     Ok(None)
 }
 
-/// The first place in the inputs of a node.
+/// The first pointer in the inputs of a node.
 fn in_inputs(
     alloc: Global,
     scope: &Scope<'_>,
@@ -191,7 +191,7 @@ fn in_inputs(
     node: &Node,
 ) -> Result<Option<VecDeque<Step>>, Memory>
     requires { slice_get scope.now.nodes.now.items number ≡ Some node.now }
-    ensures { IfOk result (λ place. option_map place_of place ≡ in_inputs_of_node (breaks scope.now.sought) (scope_of scope.now) node.now) }
+    ensures { IfOk result (λ pointer. option_map pointer_of pointer ≡ in_inputs_of_node (breaks scope.now.sought) (scope_of scope.now) node.now) }
 {
     let declared = scope.inputs_of(number, node);
     first_input(alloc, scope, &declared, inputs_of(node))
@@ -205,7 +205,7 @@ fn in_node(
     node: &Node,
 ) -> Result<Option<VecDeque<Step>>, Memory>
     requires { slice_get scope.now.nodes.now.items number ≡ Some node.now }
-    ensures { IfOk result (λ place. option_map place_of place ≡ walk.in_node (breaks scope.now.sought) (scope_of scope.now) number node.now) }
+    ensures { IfOk result (λ pointer. option_map pointer_of pointer ≡ walk.in_node (breaks scope.now.sought) (scope_of scope.now) number node.now) }
 {
     if node_breaks(alloc, scope, number, node)? {
         return Ok(here(alloc));
@@ -224,7 +224,7 @@ fn in_settings(
     scope: &Scope<'_>,
     settings: &[Setting],
 ) -> Result<Option<VecDeque<Step>>, Memory>
-    ensures { IfOk result (λ place. option_map place_of place
+    ensures { IfOk result (λ pointer. option_map pointer_of pointer
         ≡ walk.in_settings (breaks scope.now.sought) (scope_of scope.now) (settings_of settings.now)) }
 {
     for setting in settings {
@@ -240,7 +240,7 @@ fn in_settings(
 
 #[cycle(walk)]
 fn in_zone(alloc: Global, scope: &Scope<'_>, zone: &Zone) -> Result<Option<VecDeque<Step>>, Memory>
-    ensures { IfOk result (λ place. option_map place_of place ≡ in_zone (breaks scope.now.sought) (scope_of scope.now) zone.now) }
+    ensures { IfOk result (λ pointer. option_map pointer_of pointer ≡ in_zone (breaks scope.now.sought) (scope_of scope.now) zone.now) }
 {
     let items = Sockets::new(alloc, &zone.items)?;
     let found = in_sockets(alloc, scope.sought, &items)?;
@@ -264,13 +264,13 @@ fn in_zone(alloc: Global, scope: &Scope<'_>, zone: &Zone) -> Result<Option<VecDe
     at_key(alloc, found, "output")
 }
 
-/// The first place in what a group gives out and in its outputs.
+/// The first pointer in what a group gives out and in its outputs.
 fn in_results(
     alloc: Global,
     scope: &Scope<'_>,
     group: &Group,
 ) -> Result<Option<VecDeque<Step>>, Memory>
-    ensures { IfOk result (λ place. option_map place_of place ≡ in_results (breaks scope.now.sought) (scope_of scope.now) (group_of group.now)) }
+    ensures { IfOk result (λ pointer. option_map pointer_of pointer ≡ in_results (breaks scope.now.sought) (scope_of scope.now) (group_of group.now)) }
 {
     let outputs = Sockets::new(alloc, &group.outputs)?;
     let found = in_output(alloc, scope, &outputs, &group.output)?;
@@ -281,7 +281,7 @@ fn in_results(
     at_key(alloc, found, "outputs")
 }
 
-/// The first place in the parts of the group with that number.
+/// The first pointer in the parts of the group with that number.
 fn in_parts(
     alloc: Global,
     sought: Sought,
@@ -289,7 +289,7 @@ fn in_parts(
     number: usize,
     group: &Group,
 ) -> Result<Option<VecDeque<Step>>, Memory>
-    ensures { IfOk result (λ place. option_map place_of place ≡ in_parts (breaks sought) (map group_of groups.now.list.now) number (group_of group.now)) }
+    ensures { IfOk result (λ pointer. option_map pointer_of pointer ≡ in_parts (breaks sought) (map group_of groups.now.list.now) number (group_of group.now)) }
 {
     let inputs = Sockets::new(alloc, &group.inputs)?;
     let found = in_sockets(alloc, sought, &inputs)?;
@@ -312,7 +312,7 @@ fn in_group(
     number: usize,
     group: &Group,
 ) -> Result<Option<VecDeque<Step>>, Memory>
-    ensures { IfOk result (λ place. option_map place_of place
+    ensures { IfOk result (λ pointer. option_map pointer_of pointer
         ≡ walk.in_group (breaks sought) (map group_of groups.now.list.now) number (group_of group.now)) }
 {
     if name_breaks(sought, &groups.measures.names, number, &group.name) {
@@ -326,7 +326,7 @@ fn first_group(
     sought: Sought,
     groups: &Groups<'_>,
 ) -> Result<Option<VecDeque<Step>>, Memory>
-    ensures { IfOk result (λ place. option_map place_of place
+    ensures { IfOk result (λ pointer. option_map pointer_of pointer
         ≡ walk.first_group (breaks sought) (map group_of groups.now.list.now) 0 (map group_of groups.now.list.now)) }
 {
     let mut number: usize = 0;
@@ -340,7 +340,7 @@ fn first_group(
     Ok(None)
 }
 
-/// The first place in the tree's own list of nodes and in what the tree gives out.
+/// The first pointer in the tree's own list of nodes and in what the tree gives out.
 fn in_body<'s>(
     alloc: Global,
     sought: Sought,
@@ -348,7 +348,7 @@ fn in_body<'s>(
     groups: &'s Groups<'s>,
 ) -> Result<Option<VecDeque<Step>>, Memory>
     requires { groups.now.list.now ≡ tree.now.groups.items }
-    ensures { IfOk result (λ place. option_map place_of place ≡ in_body (breaks sought) (tree_of tree.now)) }
+    ensures { IfOk result (λ pointer. option_map pointer_of pointer ≡ in_body (breaks sought) (tree_of tree.now)) }
 {
     let above = groups.list.len();
     let scope = Scope::new(alloc, sought, &tree.nodes, Entries::Tree, groups, above)?;
@@ -366,7 +366,7 @@ fn in_body<'s>(
     }
 }
 
-/// The first place where the tree breaks one of the rules that are looked for.
+/// The first pointer where the tree breaks one of the rules that are looked for.
 pub(crate) fn in_tree(
     alloc: Global,
     sought: Sought,
@@ -374,7 +374,7 @@ pub(crate) fn in_tree(
     groups: &Groups<'_>,
 ) -> Result<Option<VecDeque<Step>>, Memory>
     requires { groups.now.list.now ≡ tree.now.groups.items }
-    ensures { IfOk result (λ place. option_map place_of place ≡ walk.first_place (tree_of tree.now) sought) }
+    ensures { IfOk result (λ pointer. option_map pointer_of pointer ≡ walk.first_pointer (tree_of tree.now) sought) }
 {
     let found = first_group(alloc, sought, groups)?;
     if found.is_some() {

@@ -220,16 +220,16 @@ module _ (graph : Graph) (start : ℕ) where
 
   -- ---- the end of the search
 
-  place_of : (xs : List ℕ) (x : ℕ) → IsTrue (has xs x) → (k : ℕ) × (k < length xs) × (get_or xs k 0 ≡ x)
-  place_of [] x h = absurd (cc)
-  place_of (y ∷ ys) x h = elim (or_tells (y == x) (has ys x) h) as (λ _. (k : ℕ) × (k < length (y ∷ ys)) × (get_or (y ∷ ys) k 0 ≡ x)) [
+  position_of : (xs : List ℕ) (x : ℕ) → IsTrue (has xs x) → (k : ℕ) × (k < length xs) × (get_or xs k 0 ≡ x)
+  position_of [] x h = absurd (cc)
+  position_of (y ∷ ys) x h = elim (or_tells (y == x) (has ys x) h) as (λ _. (k : ℕ) × (k < length (y ∷ ys)) × (get_or (y ∷ ys) k 0 ≡ x)) [
     | inl e ↦ (0, omega arith, (Decides-eqb y x).0 e)
-    | inr g ↦ let p = place_of ys x g in (suc p.0, omega (arith, p.1), p.2)
+    | inr g ↦ let p = position_of ys x g in (suc p.0, omega (arith, p.1), p.2)
   ]
 
   closed_at : (s : State) (at : ℕ) → Reached graph start s at → length s.1 ≤ at → (x : ℕ) → IsTrue (has s.1 x) → (t : ℕ) → IsTrue (has_edge graph x t) → (t ≢ start) × (IsTrue (has s.1 t) ⊎ (length graph ≤ t))
   closed_at s at r h x g t edge =
-      let p = place_of s.1 x g in
+      let p = position_of s.1 x g in
       r.closed p.0 (omega (arith, p.1)) t (subst (λ y. IsTrue (has_edge graph y t)) (sym p.2) edge)
 
   not_back : (s : State) (at : ℕ) → Reached graph start s at → length s.1 ≤ at → {x y : ℕ} → Leads graph x y → IsTrue (has s.1 x) → y ≢ start

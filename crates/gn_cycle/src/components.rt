@@ -3,7 +3,7 @@ use crate::targets::targets_of;
 use gn_memory::Memory;
 use std::alloc::Global;
 
-/// A node on the way, with the number under which it was met and the place of its next edge.
+/// A node on the way, with the number under which it was met and the position of its next edge.
 #[derive(Clone, Copy)]
 struct Visit {
     node: usize,

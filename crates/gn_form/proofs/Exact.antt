@@ -1,4 +1,4 @@
--- Going through a value finds the first place where it is not of its form.
+-- Going through a value finds the first pointer where it is not of its form.
 use Rattle.std.proofs.Common.{◌≡◌, ℕ, suc, ◌<◌, Bool, true, false, List, [], Option, Some, None, Result, Ok, Err, IfOk, option_map, refl, sym, ◌∙◌, subst, arith, if◌then◌else◌, true≢false}
 use Rattle.std.specs.declared.cmp.Ordering.TheVariants.{Less}
 use Rattle.std.specs.Ordering.{nat_cmp}
@@ -7,25 +7,25 @@ use Rattle.std.specs.declared.collections.VecDeque.{VecDeque}
 use Rattle.std.proofs.lemmas.Bool.Decides.{nat_tests}
 use Rattle.serde_json.specs.Data.{Data, null, boolean, number, string, array, object, Items, no_items, item, Members, no_members, member}
 use Rattle.gn_kinds.specs.Row.{Text}
-use Rattle.gn_places.specs.Place.{Step, index, key, Place, IsFirst, IsBadAt, joined}
+use Rattle.gn_pointers.specs.Pointers.{Step, index, key, Pointer, IsFirst, IsBadAt, joined}
 use Rattle.gn_memory.specs.declared.Memory.{Memory}
-use Rattle.gn_places.specs.Seen.{place_of}
-use Rattle.gn_places.specs.declared.step.Step.{Step as CodeStep}
-use Rattle.gn_places.proofs.First as first
+use Rattle.gn_pointers.specs.Seen.{pointer_of}
+use Rattle.gn_pointers.specs.declared.step.Step.{Step as CodeStep}
+use Rattle.gn_pointers.proofs.First as first
 use Rattle.gn_form.specs.Form.{Form, a_tree, Asked, fits, IsMisfit, BreaksForm, parts, numbered, numbered_if, under_key, members_asked, item_form, member_form, row_in_node}
 use Rattle.gn_form.specs.Walk.{if_asked, first_in, first_item, first_member}
 use Rattle.gn_form.specs.Order.{Precedes, InOrder, ItemsInOrder, MembersInOrder}
 
-abbrev Bad : Asked → Place → Type 0
+abbrev Bad : Asked → Pointer → Type 0
 Bad = IsBadAt parts IsMisfit
 
-abbrev Among : List (Step × Asked) → Place → Type 0
+abbrev Among : List (Step × Asked) → Pointer → Type 0
 Among = first.Among parts IsMisfit
 
 abbrev Before : Step → List (Step × Asked) → Type 0
 Before = first.Before parts IsMisfit
 
-by_fit : (form : Form) (d : Data) (b : Bool) (found : Option Place) → fits form d ≡ b → IsFirst (Among (parts (form, d))) found → IsFirst (Bad (form, d)) (if b then found else Some [])
+by_fit : (form : Form) (d : Data) (b : Bool) (found : Option Pointer) → fits form d ≡ b → IsFirst (Among (parts (form, d))) found → IsFirst (Bad (form, d)) (if b then found else Some [])
 by_fit form d true found e h = first.first_below parts IsMisfit (form, d) found (λ bad. true≢false (sym e ∙ bad)) h
 by_fit form d false found e h = first.first_here parts IsMisfit (form, d) e
 
@@ -44,7 +44,7 @@ key_before : (form : Text → Option Form) (k : Text) (ms : Members) → Precede
 key_before form k no_members h = tt
 key_before form k (member l d ms) h = key_before_at form k l d ms (form l) h (key_before form k ms h.1)
 
-member_next : (k : Text) (d : Data) (o : Option Form) (rest : List (Step × Asked)) (found : Option Place) → Before (key k) rest → ((g : Form) → IsFirst (Bad (g, d)) (first_in g d))
+member_next : (k : Text) (d : Data) (o : Option Form) (rest : List (Step × Asked)) (found : Option Pointer) → Before (key k) rest → ((g : Form) → IsFirst (Bad (g, d)) (first_in g d))
     → IsFirst (Among rest) found → IsFirst (Among (under_key k d o rest)) (joined (key k) (if_asked o (λ g. first_in g d)) found)
 member_next k d None rest found above f h = h
 member_next k d (Some g) rest found above f h = first.first_of_parts parts IsMisfit (key k) (g, d) rest (first_in g d) found above (f g) h
@@ -78,7 +78,7 @@ pub tree_is_first : (d : Data) → InOrder d → IsFirst (BreaksForm d) (first_i
 tree_is_first d h = first_in_is_first a_tree d h
 
 -- what the walk answers, if it had memory
-pub misfit_is_first : (d : Data) (found : Result (Option (VecDeque CodeStep Global)) Memory) → InOrder d → IfOk found (λ f. option_map place_of f ≡ first_in a_tree d)
-    → IfOk found (λ f. IsFirst (BreaksForm d) (option_map place_of f))
-misfit_is_first d (Ok f) h e = subst (λ place. IsFirst (BreaksForm d) place) (sym e) (tree_is_first d h)
+pub misfit_is_first : (d : Data) (found : Result (Option (VecDeque CodeStep Global)) Memory) → InOrder d → IfOk found (λ f. option_map pointer_of f ≡ first_in a_tree d)
+    → IfOk found (λ f. IsFirst (BreaksForm d) (option_map pointer_of f))
+misfit_is_first d (Ok f) h e = subst (λ pointer. IsFirst (BreaksForm d) pointer) (sym e) (tree_is_first d h)
 misfit_is_first d (Err x) h e = tt

@@ -10,7 +10,7 @@ use Rattle.gn_kinds.specs.declared.row.SocketKind.{SocketKind}
 use Rattle.gn_kinds.specs.Names.{kind_named, place_named}
 use Rattle.gn_kinds.specs.Row.{Text, Setting, type_in, op_in, place_in, a_clamp, a_name, a_file, value_of, group_name, zone_items, zone_nodes, zone_output, Input, input_name, KindRow}
 use Rattle.gn_kinds.specs.Table.{any_kind, row_of_kind}
-use Rattle.gn_places.specs.Place.{Step, index, key, IsBadAt, Place as At}
+use Rattle.gn_pointers.specs.Pointers.{Step, index, key, IsBadAt, Pointer as At}
 use Rattle.gn_form.specs.Text.{is_id, is_column_name, is_file_name, is_word}
 use Rattle.gn_form.specs.Constant.{constant_as, constant_in, three_numbers}
 
@@ -188,6 +188,6 @@ parts (form, d) = parts_of form d
 abbrev pub IsMisfit : Asked → Type 0
 IsMisfit (form, d) = fits form d ≡ false
 
--- the value at that place of a tree is not of its form
+-- the value at that pointer of a tree is not of its form
 abbrev pub BreaksForm : Data → At → Type 0
 BreaksForm d = IsBadAt parts IsMisfit (a_tree, d)

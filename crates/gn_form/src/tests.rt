@@ -1,18 +1,18 @@
 use crate::first_misfit;
-use gn_places::place_text;
+use gn_pointers::pointer_string;
 use serde_json::Value;
 use std::alloc::Global;
 use std::process::Abort;
 use std::test::Fail;
 
-/// Compares the text of the first place that is not of its form, or `none`.
-fn expect_place(rt: &impl Abort, alloc: Global, text: &str, place: &str) -> Result<(), Fail> {
+/// Compares the text of the first pointer that is not of its form, or `none`.
+fn expect_pointer(rt: &impl Abort, alloc: Global, text: &str, pointer: &str) -> Result<(), Fail> {
     let tree = Value::from_slice(alloc, text.as_bytes())?;
     let found = match first_misfit(alloc, &tree)? {
-        Some(found) => place_text(alloc, &found)?,
+        Some(found) => pointer_string(alloc, &found)?,
         None => String::from_str(alloc, "none")?,
     };
-    assert_eq!(rt; found.as_str(), place, "{text}");
+    assert_eq!(rt; found.as_str(), pointer, "{text}");
     Ok(())
 }
 
@@ -76,13 +76,13 @@ static TREES: [(&str, &str); 24] = [
 
 #[test]
 fn names_the_first_misfit_of_a_tree(rt: HostRuntime) -> Result<(), Fail> {
-    for (text, place) in TREES {
-        expect_place(&rt, rt.alloc(), text, place)?;
+    for (text, pointer) in TREES {
+        expect_pointer(&rt, rt.alloc(), text, pointer)?;
     }
     Ok(())
 }
 
-/// Nodes of a tree with one node, and the place in the node.
+/// Nodes of a tree with one node, and the pointer in the node.
 static NODES: [(&str, &str); 48] = [
     (r#"{"id":"a","kind":"index","set":{},"in":{}}"#, "none"),
     (r#"{"id":"a","kind":"index","set":[]}"#, "/nodes/0/set"),
@@ -239,14 +239,14 @@ static NODES: [(&str, &str); 48] = [
 #[test]
 fn names_the_first_misfit_of_a_node(rt: HostRuntime) -> Result<(), Fail> {
     let alloc = rt.alloc();
-    for (node, place) in NODES {
+    for (node, pointer) in NODES {
         let text = format!(in alloc; "{{\"format\":1,\"nodes\":[{node}]}}")?;
-        expect_place(&rt, alloc, &text, place)?;
+        expect_pointer(&rt, alloc, &text, pointer)?;
     }
     Ok(())
 }
 
-/// Settings of that many bytes, and the place in a tree of one node.
+/// Settings of that many bytes, and the pointer in a tree of one node.
 static LENGTHS: [(&str, &str, usize, &str); 4] = [
     ("remove_named_attribute", "name", 64, "none"),
     ("remove_named_attribute", "name", 65, "/nodes/0/set/name"),
@@ -257,12 +257,12 @@ static LENGTHS: [(&str, &str, usize, &str); 4] = [
 #[test]
 fn names_and_files_have_a_greatest_length(rt: HostRuntime) -> Result<(), Fail> {
     let alloc = rt.alloc();
-    for (kind, key, length, place) in LENGTHS {
+    for (kind, key, length, pointer) in LENGTHS {
         let name = "n".repeat(alloc, length)?;
         let text = format!(in alloc;
             "{{\"format\":1,\"nodes\":[{{\"id\":\"a\",\"kind\":\"{kind}\",\"set\":{{\"{key}\":\"{name}\"}}}}]}}"
         )?;
-        expect_place(&rt, alloc, &text, place)?;
+        expect_pointer(&rt, alloc, &text, pointer)?;
     }
     Ok(())
 }
@@ -360,8 +360,8 @@ static FORMS: [(&str, &str); 23] = [
 
 #[test]
 fn names_a_misfit_of_each_form(rt: HostRuntime) -> Result<(), Fail> {
-    for (text, place) in FORMS {
-        expect_place(&rt, rt.alloc(), text, place)?;
+    for (text, pointer) in FORMS {
+        expect_pointer(&rt, rt.alloc(), text, pointer)?;
     }
     Ok(())
 }
@@ -450,13 +450,13 @@ static KEYS: [(&str, &str); 21] = [
 
 #[test]
 fn names_the_object_where_a_key_is_unknown_or_missing(rt: HostRuntime) -> Result<(), Fail> {
-    for (text, place) in KEYS {
-        expect_place(&rt, rt.alloc(), text, place)?;
+    for (text, pointer) in KEYS {
+        expect_pointer(&rt, rt.alloc(), text, pointer)?;
     }
     Ok(())
 }
 
-/// Trees that break their form at several places.
+/// Trees that break their form at several pointers.
 static SEVERAL: [(&str, &str); 6] = [
     (r#"{"format":0,"nodes":{},"color":1}"#, "/"),
     (
@@ -483,8 +483,8 @@ static SEVERAL: [(&str, &str); 6] = [
 
 #[test]
 fn names_the_first_of_several_misfits(rt: HostRuntime) -> Result<(), Fail> {
-    for (text, place) in SEVERAL {
-        expect_place(&rt, rt.alloc(), text, place)?;
+    for (text, pointer) in SEVERAL {
+        expect_pointer(&rt, rt.alloc(), text, pointer)?;
     }
     Ok(())
 }
@@ -516,7 +516,7 @@ fn tells_inputs_from_other_values(rt: HostRuntime) -> Result<(), Fail> {
     let alloc = rt.alloc();
     for (input, good) in INPUTS {
         let text = format!(in alloc; "{{\"format\":1,\"nodes\":[],\"output\":{input}}}")?;
-        expect_place(&rt, alloc, &text, if good { "none" } else { "/output" })?;
+        expect_pointer(&rt, alloc, &text, if good { "none" } else { "/output" })?;
     }
     Ok(())
 }

@@ -1,7 +1,7 @@
 ghost use Rattle.std.specs.Prelude.{◌≡◌, option_map, IfOk};
 ghost use Rattle.gn_kinds.specs.Seen.{row_of};
-ghost use Rattle.gn_places.specs.Place.{IsFirst};
-ghost use Rattle.gn_places.specs.Seen.{place_of};
+ghost use Rattle.gn_pointers.specs.Pointers.{IsFirst};
+ghost use Rattle.gn_pointers.specs.Seen.{pointer_of};
 ghost use Rattle.gn_form.specs.Form as is;
 ghost use Rattle.gn_form.specs.Order.{InOrder};
 ghost use Rattle.gn_form.specs.Walk as walk;
@@ -13,7 +13,7 @@ use crate::form::Form;
 use crate::key::{member_form, row_in_node};
 use gn_kinds::Row;
 use gn_memory::Memory;
-use gn_places::Step;
+use gn_pointers::Step;
 use serde_json::{Map, Value};
 use std::alloc::Global;
 use std::collections::VecDeque;
@@ -38,7 +38,7 @@ fn item_form(form: Form, items: &[Value]) -> Option<Form>
 
 #[cycle(walk)]
 fn first_in(alloc: Global, form: Form, value: &Value) -> Result<Option<VecDeque<Step>>, Memory>
-    ensures { IfOk result (λ found. option_map place_of found ≡ walk.first_in (form_of form) (view value.now)) }
+    ensures { IfOk result (λ found. option_map pointer_of found ≡ walk.first_in (form_of form) (view value.now)) }
 {
     if !fits(form, value) {
         return Ok(Some(VecDeque::new(alloc)));
@@ -59,13 +59,13 @@ fn first_item(
     form: Form,
     items: &Vec<Value>,
 ) -> Result<Option<VecDeque<Step>>, Memory>
-    ensures { IfOk result (λ found. option_map place_of found ≡ walk.first_item (form_of form) 0 (items_view items.now.items)) }
+    ensures { IfOk result (λ found. option_map pointer_of found ≡ walk.first_item (form_of form) 0 (items_view items.now.items)) }
 {
     let mut index: u64 = 0;
     for item in items {
-        if let Some(mut place) = first_in(alloc, form, item)? {
-            place.push_front(Step::Index(index))?;
-            return Ok(Some(place));
+        if let Some(mut pointer) = first_in(alloc, form, item)? {
+            pointer.push_front(Step::Index(index))?;
+            return Ok(Some(pointer));
         }
         index += 1;
     }
@@ -79,26 +79,26 @@ fn first_member(
     row: Option<&'static Row>,
     members: &Map<String, Value>,
 ) -> Result<Option<VecDeque<Step>>, Memory>
-    ensures { IfOk result (λ found. option_map place_of found
+    ensures { IfOk result (λ found. option_map pointer_of found
         ≡ walk.first_member (is.member_form (form_of form) (option_map (λ row. row_of row.now) row.entry)) (members_view members.now.entries)) }
 {
     for (key, member) in members.iter() {
         if let Some(inner) = member_form(form, row, key) {
-            if let Some(mut place) = first_in(alloc, inner, member)? {
-                place.push_front(Step::Key(key.clone()?))?;
-                return Ok(Some(place));
+            if let Some(mut pointer) = first_in(alloc, inner, member)? {
+                pointer.push_front(Step::Key(key.clone()?))?;
+                return Ok(Some(pointer));
             }
         }
     }
     Ok(None)
 }
 
-/// The first place of a tree where what stands there is not of its form: an object before its
+/// The first pointer of a tree where what stands there is not of its form: an object before its
 /// members, arrays by index, keys by their bytes. `None` where all is of its form.
 pub fn first_misfit(alloc: Global, tree: &Value) -> Result<Option<VecDeque<Step>>, Memory>
     ensures first { InOrder (view tree.now) →
-        IfOk result (λ found. IsFirst (is.BreaksForm (view tree.now)) (option_map place_of found)) }
-    ensures walked { IfOk result (λ found. option_map place_of found ≡ walk.first_in is.a_tree (view tree.now)) }
+        IfOk result (λ found. IsFirst (is.BreaksForm (view tree.now)) (option_map pointer_of found)) }
+    ensures walked { IfOk result (λ found. option_map pointer_of found ≡ walk.first_in is.a_tree (view tree.now)) }
 {
     first_in(alloc, Form::Tree, tree)
 }

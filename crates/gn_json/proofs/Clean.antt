@@ -10,7 +10,7 @@ use Rattle.std.proofs.lemmas.Slice.Eq.{bytes_eq-Decides}
 use Rattle.serde_json.specs.Data.{Data, null, boolean, number, string, array, object, Items, Members, no_members, member}
 use Rattle.serde_json.specs.Find.{get, get_member}
 use Rattle.gn_kinds.specs.Row.{Text}
-use Rattle.gn_places.specs.Place.{Step, key, Place, IsFirst, joined}
+use Rattle.gn_pointers.specs.Pointers.{Step, key, Pointer, IsFirst, joined}
 use Rattle.gn_form.specs.Form.{Form, Key, fits, are_there, named, item_form, member_form, row_in_node}
 use Rattle.gn_form.specs.Walk.{if_asked, first_in, first_item, first_member}
 
@@ -40,15 +40,15 @@ same_bytes k l e = (bytes_eq-Decides k l).0 e
 abbrev pub IsClean : Form → Data → Type 0
 IsClean form d = first_in form d ≡ None
 
-pub none_of : (b : Bool) (found : Option Place) → (if b then found else Some []) ≡ None → (b ≡ true) × (found ≡ None)
+pub none_of : (b : Bool) (found : Option Pointer) → (if b then found else Some []) ≡ None → (b ≡ true) × (found ≡ None)
 none_of true found e = (refl, e)
 none_of false found e = absurd (cc)
 
-pub none_joined : (s : Step) (here rest : Option Place) → joined s here rest ≡ None → (here ≡ None) × (rest ≡ None)
+pub none_joined : (s : Step) (here rest : Option Pointer) → joined s here rest ≡ None → (here ≡ None) × (rest ≡ None)
 none_joined s None rest e = (refl, e)
 none_joined s (Some p) rest e = absurd (cc)
 
-pub none_first : (P : Place → Type 0) (found : Option Place) → IsFirst P found → IsFirst P None → found ≡ None
+pub none_first : (P : Pointer → Type 0) (found : Option Pointer) → IsFirst P found → IsFirst P None → found ≡ None
 none_first P None h none = refl
 none_first P (Some p) h none = absurd (none p h.0)
 

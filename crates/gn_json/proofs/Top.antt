@@ -7,9 +7,9 @@ use Rattle.std.proofs.lemmas.Str.{is_utf8-from_IsUtf8, IsUtf8-from_is_utf8}
 use Rattle.serde_json.specs.Data.{Data}
 use Rattle.serde_json.specs.Read.{read}
 use Rattle.gn_memory.specs.declared.Memory.{Memory}
-use Rattle.gn_places.specs.Place.{IsFirst}
-use Rattle.gn_places.specs.Seen.{place_of}
-use Rattle.gn_places.specs.declared.step.Step.{Step}
+use Rattle.gn_pointers.specs.Pointers.{IsFirst}
+use Rattle.gn_pointers.specs.Seen.{pointer_of}
+use Rattle.gn_pointers.specs.declared.step.Step.{Step}
 use Rattle.gn_form.specs.Form.{BreaksForm}
 use Rattle.gn_form.specs.Order.{InOrder}
 use Rattle.gn_form.proofs.Sorted.{read_in_order}
@@ -27,22 +27,22 @@ abbrev Found : Type 0
 Found = Result (Option (VecDeque Step Global)) Memory
 
 answers_from : (bytes : List ℕ) (d : Data) (found : Found) (r : Result Tree JsonFault) → json bytes ≡ Some d → InOrder d
-    → IfOk found (λ f. IsFirst (BreaksForm d) (option_map place_of f)) → Judged d found r → Answers bytes r
+    → IfOk found (λ f. IsFirst (BreaksForm d) (option_map pointer_of f)) → Judged d found r → Answers bytes r
 answers_from bytes d (Ok None) (Ok t) e o h j = (d, (e, h), tree_is_whole d o h ∙ ap (λ x. Some x) (sym j))
-answers_from bytes d (Ok (Some place)) (Err (fault.Form text)) e o h j = (d, place_of place, (e, h), j)
+answers_from bytes d (Ok (Some pointer)) (Err (fault.Form text)) e o h j = (d, pointer_of pointer, (e, h), j)
 answers_from bytes d (Ok None) (Err fault.Memory) e o h j = tt
-answers_from bytes d (Ok (Some place)) (Err fault.Memory) e o h j = tt
+answers_from bytes d (Ok (Some pointer)) (Err fault.Memory) e o h j = tt
 answers_from bytes d (Err x) (Err fault.Memory) e o h j = tt
 answers_from bytes d (Ok None) (Err fault.Text) e o h j = elim j [ ]
 answers_from bytes d (Ok None) (Err (fault.Form text)) e o h j = elim j [ ]
-answers_from bytes d (Ok (Some place)) (Ok t) e o h j = elim j [ ]
-answers_from bytes d (Ok (Some place)) (Err fault.Text) e o h j = elim j [ ]
+answers_from bytes d (Ok (Some pointer)) (Ok t) e o h j = elim j [ ]
+answers_from bytes d (Ok (Some pointer)) (Err fault.Text) e o h j = elim j [ ]
 answers_from bytes d (Err x) (Ok t) e o h j = elim j [ ]
 answers_from bytes d (Err x) (Err fault.Text) e o h j = elim j [ ]
 answers_from bytes d (Err x) (Err (fault.Form text)) e o h j = elim j [ ]
 
 pub judged_answers : (bytes : List ℕ) (d : Data) (found : Found) (r : Result Tree JsonFault) → IsUtf8 bytes → read bytes ≡ Some d
-    → (InOrder d → IfOk found (λ f. IsFirst (BreaksForm d) (option_map place_of f))) → Judged d found r → Answers bytes r
+    → (InOrder d → IfOk found (λ f. IsFirst (BreaksForm d) (option_map pointer_of f))) → Judged d found r → Answers bytes r
 judged_answers bytes d found r utf8 e h j = answers_from bytes d found r (json_is bytes d utf8 e) (read_in_order bytes d e) (h (read_in_order bytes d e)) j
 
 if_not : (bytes : List ℕ) (b : Bool) → is_utf8 bytes ≡ b → (IsUtf8 bytes → read bytes ≡ None) → (if b then read bytes else None) ≡ None

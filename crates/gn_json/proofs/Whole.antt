@@ -14,7 +14,7 @@ use Rattle.gn_kinds.specs.Names.{kind_named, place_named}
 use Rattle.gn_kinds.specs.Row as row
 use Rattle.gn_kinds.specs.Row.{Text, KindRow}
 use Rattle.gn_kinds.specs.Table.{any_kind, row_of_kind}
-use Rattle.gn_places.specs.Place.{index, key, IsFirst}
+use Rattle.gn_pointers.specs.Pointers.{index, key, IsFirst}
 use Rattle.gn_form.specs.Constant.{constant_as, constant_in, three_numbers}
 use Rattle.gn_form.specs.Text.{is_id, is_column_name, is_file_name, is_word}
 use Rattle.gn_form.specs.Form as form
@@ -443,6 +443,6 @@ tree_is (object ms) e =
     (nodes_of_keys keys ms h refl)
     (output_found (get (codes "output") d) (clean_under keys ms (codes "output") (may_have (codes "output") form.an_input) h refl))
 
--- where no place breaks the form, the tree that is made of the value is the one that the value is
+-- where no pointer breaks the form, the tree that is made of the value is the one that the value is
 pub tree_is_whole : (d : Data) → InOrder d → IsFirst (BreaksForm d) None → tree_from d ≡ Some (tree_in d)
 tree_is_whole d h none = tree_is d (none_first (BreaksForm d) (first_in form.a_tree d) (tree_is_first d h) none)

@@ -4,10 +4,10 @@ use Rattle.std.specs.declared.alloc.Global.{Global}
 use Rattle.std.specs.declared.collections.VecDeque.{VecDeque}
 use Rattle.serde_json.specs.Data.{Data}
 use Rattle.gn_memory.specs.declared.Memory.{Memory}
-use Rattle.gn_places.specs.Seen.{place_of}
-use Rattle.gn_places.specs.declared.step.Step.{Step}
-use Rattle.gn_places.specs.Place.{Place, IsFirst}
-use Rattle.gn_places.specs.Pointer.{pointer_text}
+use Rattle.gn_pointers.specs.Seen.{pointer_of}
+use Rattle.gn_pointers.specs.declared.step.Step.{Step}
+use Rattle.gn_pointers.specs.Pointers.{Pointer, IsFirst}
+use Rattle.gn_pointers.specs.Texts.{pointer_text}
 use Rattle.gn_form.specs.Form.{BreaksForm}
 use Rattle.gn_tree.specs.Seen.{tree_of}
 use Rattle.gn_tree.specs.declared.tree.Tree.{Tree}
@@ -17,14 +17,14 @@ use Rattle.gn_json.specs.Typed.{tree_in}
 use Rattle.gn_json.specs.declared.fault.JsonFault.{JsonFault}
 use Rattle.gn_json.specs.declared.fault.JsonFault.TheVariants as fault
 
--- the bytes are a JSON value, and this is the first place where it is not of a tree's form
-abbrev pub FirstMisfit : List ℕ → Data → Option Place → Type 0
+-- the bytes are a JSON value, and this is the first pointer where it is not of a tree's form
+abbrev pub FirstMisfit : List ℕ → Data → Option Pointer → Type 0
 FirstMisfit bytes d found = (json bytes ≡ Some d) × IsFirst (BreaksForm d) found
 
 -- the tree that the value is; or its first misfit; or there is no JSON value
 abbrev pub Answers : List ℕ → Result Tree JsonFault → Type 0
 Answers bytes (Ok t) = (d : Data) × FirstMisfit bytes d None × (tree_from d ≡ Some (tree_of t))
-Answers bytes (Err (fault.Form text)) = (d : Data) × (place : Place) × FirstMisfit bytes d (Some place) × (string_bytes text ≡ pointer_text place)
+Answers bytes (Err (fault.Form text)) = (d : Data) × (pointer : Pointer) × FirstMisfit bytes d (Some pointer) × (string_bytes text ≡ pointer_text pointer)
 Answers bytes (Err fault.Text) = json bytes ≡ None
 Answers bytes (Err fault.Memory) = Unit {0}
 
@@ -32,9 +32,9 @@ Answers bytes (Err fault.Memory) = Unit {0}
 abbrev pub IsTreeWhereFit : List ℕ → Type 0
 IsTreeWhereFit bytes = (d : Data) → FirstMisfit bytes d None → IsSome (tree_from d)
 
--- what is made of the value and the place that was found in it
+-- what is made of the value and the pointer that was found in it
 abbrev pub Judged : Data → Result (Option (VecDeque Step Global)) Memory → Result Tree JsonFault → Type 0
 Judged d (Ok None) (Ok t) = tree_of t ≡ tree_in d
-Judged d (Ok (Some place)) (Err (fault.Form text)) = string_bytes text ≡ pointer_text (place_of place)
+Judged d (Ok (Some pointer)) (Err (fault.Form text)) = string_bytes text ≡ pointer_text (pointer_of pointer)
 Judged d found (Err fault.Memory) = Unit {0}
 Judged d _ _ = ⊥

@@ -6,7 +6,7 @@ pub enum JsonFault {
     /// The bytes are no JSON.
     #[error("not JSON")]
     Text,
-    /// The value at that place, a JSON Pointer, is not of its form. The top is `/`.
+    /// The value at that JSON Pointer is not of its form. The top is `/`.
     #[error("not of its form at {place}")]
     Form { place: String },
     /// There was no memory.

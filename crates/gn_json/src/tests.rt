@@ -304,7 +304,7 @@ fn reads_a_node_of_each_kind(rt: HostRuntime) -> Result<(), Fail> {
     Ok(())
 }
 
-/// Texts that are no trees, and the place; none where the text is no JSON.
+/// Texts that are no trees, and the pointer; none where the text is no JSON.
 static FAULTS: [(&str, Option<&str>); 9] = [
     ("", None),
     ("{\"format\":1", None),

@@ -10,7 +10,7 @@ use crate::node::nodes_among;
 use crate::part::{input_in, inputs_at, sockets_at, string_at};
 use gn_form::first_misfit;
 use gn_memory::Memory;
-use gn_places::{Step, place_text};
+use gn_pointers::{Step, pointer_string};
 use gn_tree::{Group, Node, Tree, TreeInput};
 use serde_json::Value;
 use std::alloc::Global;
@@ -111,7 +111,7 @@ fn tree_in(alloc: Global, value: &Value) -> Result<Tree, Memory>
     })
 }
 
-/// The tree, or the text of the place that was found.
+/// The tree, or the text of the pointer that was found.
 fn judge(
     alloc: Global,
     value: &Value,
@@ -124,7 +124,7 @@ fn judge(
             Ok(tree) => Ok(tree),
             Err(_) => Err(JsonFault::Memory),
         },
-        Ok(Some(place)) => match place_text(alloc, &place) {
+        Ok(Some(pointer)) => match pointer_string(alloc, &pointer) {
             Ok(place) => Err(JsonFault::Form { place }),
             Err(_) => Err(JsonFault::Memory),
         },
@@ -138,7 +138,7 @@ fn judge(
 ///
 /// # Errors
 ///
-/// `Text` where the bytes are no JSON as `serde_json` reads it, `Form` with the first place where the
+/// `Text` where the bytes are no JSON as `serde_json` reads it, `Form` with the first pointer where the
 /// value is not of a tree's form, `Memory` where there was no memory.
 #[tactic(auto, using(crate::proofs::Top::no_json, crate::proofs::Top::is_tree_where_fit))]
 pub fn read(alloc: Global, bytes: &[u8]) -> Result<Tree, JsonFault>

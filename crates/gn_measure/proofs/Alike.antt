@@ -65,13 +65,13 @@ below_alike : (es : List ℕ) (a i : ℕ) (b : Bool) → capped (if b then get_o
 below_alike es a i true = sym (ap capped (get_or-map capped es i 0) ∙ cap_twice (get_or es i 0))
 below_alike es a i false = refl
 
-place_alike : (es : List ℕ) (a : ℕ) (o : Option ℕ)
+position_alike : (es : List ℕ) (a : ℕ) (o : Option ℕ)
     → capped (option_map_or (λ i. if nat_lt i a then get_or es i 0 else 0) o 0) ≡ capped (option_map_or (λ i. if nat_lt i a then get_or (map capped es) i 0 else 0) o 0)
-place_alike es a None = refl
-place_alike es a (Some i) = below_alike es a i (nat_lt i a)
+position_alike es a None = refl
+position_alike es a (Some i) = below_alike es a i (nat_lt i a)
 
 pub number_alike : (names : List Text) (es : List ℕ) (a : ℕ) → Alike (number_among names es a) (number_among names (map capped es) a)
-number_alike names es a name = place_alike es a (first_of names name)
+number_alike names es a name = position_alike es a (first_of names name)
 
 module _ (m : (Text → ℕ) → Nodes → ℕ) (respects : (f g : Text → ℕ) → Alike f g → (ns : Nodes) → capped (m f ns) ≡ capped (m g ns)) where
   abbrev capped_m : (Text → ℕ) → Nodes → ℕ

@@ -19,9 +19,9 @@ fn number_of(groups: &Known<'_>, name: &str) -> u64
     ensures { result ≡ known groups.now name.now }
 {
     match groups.names.first(name) {
-        Some(place) => {
-            if place < groups.above && place < groups.numbers.len() {
-                return groups.numbers[place];
+        Some(position) => {
+            if position < groups.above && position < groups.numbers.len() {
+                return groups.numbers[position];
             }
             0
         }

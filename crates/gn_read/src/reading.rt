@@ -22,7 +22,7 @@ fn pass(checked: Result<GoodTree, CheckFault>) -> Result<GoodTree, TreeFault>
 /// # Errors
 ///
 /// `Text` where the bytes are no JSON as `serde_json` reads it. `Form` with the least broken rule of
-/// F1 to F7, by its number, and the first place where it is broken. `Memory` where there was no memory.
+/// F1 to F7, by its number, and the first pointer where it is broken. `Memory` where there was no memory.
 pub fn read_tree(alloc: Global, bytes: &[u8]) -> Result<GoodTree, TreeFault>
     ensures { Answers bytes.now result }
 {

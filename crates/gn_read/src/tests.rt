@@ -3,7 +3,7 @@ use std::alloc::Global;
 use std::process::Abort;
 use std::test::Fail;
 
-/// Compares what is said of a text: `ok`, `no JSON`, or the rule and the place.
+/// Compares what is said of a text: `ok`, `no JSON`, or the rule and the pointer.
 fn expect(rt: &impl Abort, alloc: Global, text: &str, wanted: &str) -> Result<(), Fail> {
     let said = match read_tree(alloc, text.as_bytes()) {
         Ok(good) => {

@@ -1,4 +1,4 @@
--- Going through a tree finds the first place where what stands there is bad.
+-- Going through a tree finds the first pointer where what stands there is bad.
 use Rattle.std.proofs.Common.{◌≡◌, ℕ, suc, ◌<◌, Bool, true, false, List, [], ◌∷◌, All, map, codes, Option, Some, None, IsTrue, refl, sym, ◌∙◌, arith, if◌then◌else◌, true≢false}
 use Rattle.std.specs.declared.cmp.Ordering.{Ordering}
 use Rattle.std.specs.declared.cmp.Ordering.TheVariants.{Less}
@@ -10,8 +10,8 @@ use Rattle.std.proofs.lemmas.Bool.Decides.{nat_tests}
 use Rattle.std.proofs.lemmas.List.Elements.{All-head, All-tail}
 use Rattle.gn_kinds.specs.declared.row.SocketKind.TheVariants.{Geometry}
 use Rattle.gn_kinds.specs.Row.{Text}
-use Rattle.gn_places.specs.Place.{Step, index, key, Place, IsFirst, IsBadAt, joined}
-use Rattle.gn_places.proofs.First as first
+use Rattle.gn_pointers.specs.Pointers.{Step, index, key, Pointer, IsFirst, IsBadAt, joined}
+use Rattle.gn_pointers.proofs.First as first
 use Rattle.gn_tree.specs.Trees.{Socket, Link, Input, constant, link, links, Named, Node, node, of_kind, op, place, clamp, a_name, file, value, of_group, Settings, no_settings, and_setting, and_zone, Nodes, no_nodes, and_node, Group, Tree}
 use Rattle.gn_tree.specs.Rising.{NamesRise, NamesRiseAt, NamesRiseInSettings, NamesRiseInNodes, NamesRiseInGroup, NamesRiseInTree}
 use Rattle.gn_rules.specs.declared.shape.Shape.{Shape}
@@ -30,10 +30,10 @@ module _ (bad : Thing → Bool) where
   abbrev pub IsBad : Thing → Type 0
   IsBad x = IsTrue (bad x)
 
-  abbrev pub FirstIn : Thing → Option Place → Type 0
+  abbrev pub FirstIn : Thing → Option Pointer → Type 0
   FirstIn x found = IsFirst (IsBadAt parts IsBad x) found
 
-  abbrev pub FirstAmong : Parts → Option Place → Type 0
+  abbrev pub FirstAmong : Parts → Option Pointer → Type 0
   FirstAmong xs found = IsFirst (first.Among parts IsBad xs) found
 
   abbrev pub Comes : Step → Parts → Type 0
@@ -42,14 +42,14 @@ module _ (bad : Thing → Bool) where
   none : FirstAmong [] None
   none = first.first_of_none parts IsBad
 
-  in_turn : (s : Step) (x : Thing) (xs : Parts) (here later : Option Place) → Comes s xs → FirstIn x here → FirstAmong xs later → FirstAmong ((s, x) ∷ xs) (joined s here later)
+  in_turn : (s : Step) (x : Thing) (xs : Parts) (here later : Option Pointer) → Comes s xs → FirstIn x here → FirstAmong xs later → FirstAmong ((s, x) ∷ xs) (joined s here later)
   in_turn s x xs here later c f g = first.first_of_parts parts IsBad s x xs here later c f g
 
-  this_as : (x : Thing) (b : Bool) (found : Option Place) → bad x ≡ b → FirstAmong (parts x) found → FirstIn x (if b then Some [] else found)
+  this_as : (x : Thing) (b : Bool) (found : Option Pointer) → bad x ≡ b → FirstAmong (parts x) found → FirstIn x (if b then Some [] else found)
   this_as x true found e h = first.first_here parts IsBad x e
   this_as x false found e h = first.first_below parts IsBad x found (λ t. true≢false (sym t ∙ e)) h
 
-  this : (x : Thing) (found : Option Place) → FirstAmong (parts x) found → FirstIn x (this_or bad x found)
+  this : (x : Thing) (found : Option Pointer) → FirstAmong (parts x) found → FirstIn x (this_or bad x found)
   this x found h = this_as x (bad x) found refl h
 
   -- ---- lists, by number
@@ -114,7 +114,7 @@ module _ (bad : Thing → Bool) where
       (joined (key (codes "in")) (in_inputs bad s ds inputs) (joined (key (codes "set")) (this_or bad (the_settings s settings) (in_settings bad s settings)) None))
   node_parts_first s i ds settings inputs h f =
       let set : Parts = (key (codes "set"), the_settings s settings) ∷ [] in
-      let in_set : Option Place = this_or bad (the_settings s settings) (in_settings bad s settings) in
+      let in_set : Option Pointer = this_or bad (the_settings s settings) (in_settings bad s settings) in
       in_turn (key (codes "in")) (the_inputs s ds inputs) set (in_inputs bad s ds inputs) (joined (key (codes "set")) in_set None) (refl, tt) (in_inputs_first s ds inputs h)
       (in_turn (key (codes "set")) (the_settings s settings) [] in_set None tt (this (the_settings s settings) (in_settings bad s settings) f) none)
 
@@ -124,7 +124,7 @@ module _ (bad : Thing → Bool) where
   zone_first inner items output h f =
       let last : Parts = (key (codes "output"), given_out inner items output) ∷ [] in
       let later : Parts = (key (codes "nodes"), the_nodes inner) ∷ last in
-      let in_last : Option Place = joined (key (codes "output")) (in_given_out bad inner items output) None in
+      let in_last : Option Pointer = joined (key (codes "output")) (in_given_out bad inner items output) None in
       in_turn (key (codes "items")) (the_sockets items) later (in_sockets bad items) (joined (key (codes "nodes")) (in_nodes bad inner) in_last) (refl, (refl, tt)) (in_sockets_first items)
       (in_turn (key (codes "nodes")) (the_nodes inner) last (in_nodes bad inner) in_last (refl, tt) f
       (in_turn (key (codes "output")) (given_out inner items output) [] (in_given_out bad inner items output) None tt (given_out_first inner items output h) none))
@@ -166,9 +166,9 @@ module _ (bad : Thing → Bool) where
       let outputs : Parts = (key (codes "outputs"), the_sockets g.outputs) ∷ [] in
       let output : Parts = (key (codes "output"), given_out inner g.outputs g.output) ∷ outputs in
       let nodes : Parts = (key (codes "nodes"), the_nodes inner) ∷ output in
-      let in_outputs : Option Place = joined (key (codes "outputs")) (in_sockets bad g.outputs) None in
-      let in_output : Option Place = joined (key (codes "output")) (in_given_out bad inner g.outputs g.output) in_outputs in
-      let in_rest : Option Place = joined (key (codes "nodes")) (in_nodes bad inner) in_output in
+      let in_outputs : Option Pointer = joined (key (codes "outputs")) (in_sockets bad g.outputs) None in
+      let in_output : Option Pointer = joined (key (codes "output")) (in_given_out bad inner g.outputs g.output) in_outputs in
+      let in_rest : Option Pointer = joined (key (codes "nodes")) (in_nodes bad inner) in_output in
       this (a_group gs i g) (joined (key (codes "inputs")) (in_sockets bad g.inputs) in_rest)
       (in_turn (key (codes "inputs")) (the_sockets g.inputs) nodes (in_sockets bad g.inputs) in_rest (refl, (refl, (refl, tt))) (in_sockets_first g.inputs)
       (in_turn (key (codes "nodes")) (the_nodes inner) output (in_nodes bad inner) in_output (refl, (refl, tt)) (in_nodes_first inner h.0)
@@ -202,8 +202,8 @@ module _ (bad : Thing → Bool) where
   tree_first t h =
       let s : Scope = tree_scope t in
       let nodes : Parts = (key (codes "nodes"), all_nodes t) ∷ output_under s t.output in
-      let in_all : Option Place = this_or bad (all_nodes t) (first_node bad s 0 t.nodes) in
-      let in_rest : Option Place = joined (key (codes "nodes")) in_all (in_output bad s t.output) in
+      let in_all : Option Pointer = this_or bad (all_nodes t) (first_node bad s 0 t.nodes) in
+      let in_rest : Option Pointer = joined (key (codes "nodes")) in_all (in_output bad s t.output) in
       this (the_tree t) (joined (key (codes "groups")) (in_groups bad t.groups) in_rest)
       (in_turn (key (codes "groups")) (the_groups t.groups) nodes (in_groups bad t.groups) in_rest (refl, output_last (codes "groups") s t.output refl)
       (this (the_groups t.groups) (first_group bad t.groups 0 t.groups) (groups_first t.groups 0 t.groups (all_by_recursion t.groups h.0)))

@@ -3,7 +3,7 @@ use Rattle.std.proofs.Common.{◌≡◌, true, List, [], ◌∷◌, ◌++◌, So
 use Rattle.gn_value.specs.declared.value.Value.TheVariants.{Truth as truth}
 use Rattle.gn_kinds.specs.Row.{Text}
 use Rattle.gn_kinds.specs.Table.{table, values, functions, elsewhere, attributes, geometry_kinds, instance_kinds, groups, row_of_kind}
-use Rattle.gn_places.specs.Place.{index, key}
+use Rattle.gn_pointers.specs.Pointers.{index, key}
 use Rattle.gn_tree.specs.Trees.{Input, constant, link, Node, node, no_settings, and_setting, and_zone, Nodes, no_nodes, and_node, Group, Tree, of_group}
 use Rattle.gn_cycle.specs.Ways.{is_on_cycle}
 use Rattle.gn_rules.specs.declared.rule.Rule.TheVariants.{Names, Links, Kinds, Order, Height, Count}

@@ -1,7 +1,7 @@
--- The rule and the place that are named are the least broken rule and the first place where it is.
+-- The rule and the pointer that are named are the least broken rule and the first pointer where it is.
 use Rattle.std.proofs.Common.{◌≡◌, ℕ, suc, ◌<◌, ◌==◌, Bool, true, false, not, ◌&&◌, ◌||◌, nat_lt, is_none, [], ◌∷◌, Option, Some, None, IsTrue, ◌⊎◌, inl, inr, refl, sym, ap, ◌∙◌, subst, arith, if◌then◌else◌}
-use Rattle.gn_places.specs.Place.{Place, IsFirst, IsBadAt, Holds, part_at}
-use Rattle.gn_places.proofs.First.{first_same}
+use Rattle.gn_pointers.specs.Pointers.{Pointer, IsFirst, IsBadAt, Holds, part_at}
+use Rattle.gn_pointers.proofs.First.{first_same}
 use Rattle.gn_tree.specs.Trees.{Tree}
 use Rattle.gn_tree.specs.Rising.{NamesRiseInTree}
 use Rattle.gn_cycle.specs.Ways.{is_on_cycle}
@@ -16,7 +16,7 @@ use Rattle.std.specs.Option.{option_map_or}
 use Rattle.gn_rules.specs.Number.{number_of}
 use Rattle.gn_rules.specs.Things.{Thing, the_tree, a_group, a_socket, all_nodes, a_node, a_group_name, an_input, a_link, parts}
 use Rattle.gn_rules.specs.Rules.{is_taken, is_loose, is_unfit, is_too_high, graph_of, node_count, breaks_names, breaks_links, breaks_kinds, breaks_height, breaks_count, Breaks, BreaksOrder, IsBrokenAt, Keeps, KeepsRules}
-use Rattle.gn_rules.specs.Walk.{breaks, first_place, named_or, named_from, named_if, all_rules, named, Tells}
+use Rattle.gn_rules.specs.Walk.{breaks, first_pointer, named_or, named_from, named_if, all_rules, named, Tells}
 use Rattle.gn_rules.proofs.Exact.{tree_first}
 
 -- ---- a thing breaks a rule exactly where the test says so
@@ -71,19 +71,19 @@ breaks_from rule.Height x b = height_same x ∙ b
 breaks_from rule.Count x b = count_same x ∙ b
 
 module _ (P Q : Thing → Type 0) (to : (x : Thing) → P x → Q x) where
-  part_to : (o : Option Thing) (p : Place) → Holds (λ y. IsBadAt parts P y p) o → Holds (λ y. IsBadAt parts Q y p) o
+  part_to : (o : Option Thing) (p : Pointer) → Holds (λ y. IsBadAt parts P y p) o → Holds (λ y. IsBadAt parts Q y p) o
   part_to None p b = b
   part_to (Some y) [] b = to y b
   part_to (Some y) (s ∷ p) b = part_to (part_at s (parts y)) p b
 
-  pub bad_to : (x : Thing) (p : Place) → IsBadAt parts P x p → IsBadAt parts Q x p
+  pub bad_to : (x : Thing) (p : Pointer) → IsBadAt parts P x p → IsBadAt parts Q x p
   bad_to x [] b = to x b
   bad_to x (s ∷ p) b = part_to (part_at s (parts x)) p b
 
-pub rule_first : (t : Tree) (r : Rule) → NamesRiseInTree t → IsFirst (IsBrokenAt t r) (first_place t (Only r))
+pub rule_first : (t : Tree) (r : Rule) → NamesRiseInTree t → IsFirst (IsBrokenAt t r) (first_pointer t (Only r))
 rule_first t r h =
     first_same (IsBrokenAt t r) (IsBadAt parts (λ x. IsTrue (breaks (Only r) x)) (the_tree t)) (bad_to (Breaks r) (λ x. IsTrue (breaks (Only r) x)) (breaks_to r) (the_tree t))
-    (bad_to (λ x. IsTrue (breaks (Only r) x)) (Breaks r) (breaks_from r) (the_tree t)) (first_place t (Only r)) (tree_first (breaks (Only r)) t h)
+    (bad_to (λ x. IsTrue (breaks (Only r) x)) (Breaks r) (breaks_from r) (the_tree t)) (first_pointer t (Only r)) (tree_first (breaks (Only r)) t h)
 
 -- ---- the rules in turn
 
@@ -130,19 +130,19 @@ keeps_next t r b k q h = elim (below_or_same (number_of q) (number_of r) h) as (
   | inr e ↦ subst (λ x. Keeps t x) (sym (same_rule q r e)) k
 ]
 
-tell : (t : Tree) (r : Rule) (found : Option Place) (later : Option (Rule × Place)) → KeepsBelow t (number_of r) → IsFirst (IsBrokenAt t r) found
+tell : (t : Tree) (r : Rule) (found : Option Pointer) (later : Option (Rule × Pointer)) → KeepsBelow t (number_of r) → IsFirst (IsBrokenAt t r) found
     → (KeepsBelow t (suc (number_of r)) → Tells t later) → Tells t (named_or r found later)
 tell t r None later b f go = go (keeps_next t r b f)
-tell t r (Some place) later b f go = record { least = b; first = f }
+tell t r (Some pointer) later b f go = record { least = b; first = f }
 
 named_from_tells : (t : Tree) → NamesRiseInTree t → Tells t (named_from t all_rules)
 named_from_tells t h =
-    tell t rule.Names (first_place t (Only rule.Names)) _ (λ q l. absurd (from_two q l)) (rule_first t rule.Names h) (λ b.
-    tell t rule.Links (first_place t (Only rule.Links)) _ b (rule_first t rule.Links h) (λ b.
-    tell t rule.Kinds (first_place t (Only rule.Kinds)) _ b (rule_first t rule.Kinds h) (λ b.
-    tell t rule.Order (first_place t (Only rule.Order)) _ b (rule_first t rule.Order h) (λ b.
-    tell t rule.Height (first_place t (Only rule.Height)) _ b (rule_first t rule.Height h) (λ b.
-    tell t rule.Count (first_place t (Only rule.Count)) _ b (rule_first t rule.Count h) (λ b. λ q. b q (below_eight q)))))))
+    tell t rule.Names (first_pointer t (Only rule.Names)) _ (λ q l. absurd (from_two q l)) (rule_first t rule.Names h) (λ b.
+    tell t rule.Links (first_pointer t (Only rule.Links)) _ b (rule_first t rule.Links h) (λ b.
+    tell t rule.Kinds (first_pointer t (Only rule.Kinds)) _ b (rule_first t rule.Kinds h) (λ b.
+    tell t rule.Order (first_pointer t (Only rule.Order)) _ b (rule_first t rule.Order h) (λ b.
+    tell t rule.Height (first_pointer t (Only rule.Height)) _ b (rule_first t rule.Height h) (λ b.
+    tell t rule.Count (first_pointer t (Only rule.Count)) _ b (rule_first t rule.Count h) (λ b. λ q. b q (below_eight q)))))))
 
 -- ---- where no rule is broken anywhere
 
@@ -172,11 +172,11 @@ any_breaks r (all_nodes t) b = second (has (Only r) rule.Count) (nat_lt 16384 (n
 any_breaks r _ b = absurd (cc)
 
 keeps_all : (t : Tree) → IsFirst (IsBadAt parts (λ x. IsTrue (breaks Any x)) (the_tree t)) None → KeepsRules t
-keeps_all t f r place b = f place (bad_to (Breaks r) (λ x. IsTrue (breaks Any x)) (λ x h. any_breaks r x (breaks_to r x h)) (the_tree t) place b)
+keeps_all t f r pointer b = f pointer (bad_to (Breaks r) (λ x. IsTrue (breaks Any x)) (λ x h. any_breaks r x (breaks_to r x h)) (the_tree t) pointer b)
 
-tells_if : (t : Tree) (found : Option Place) → NamesRiseInTree t → IsFirst (IsBadAt parts (λ x. IsTrue (breaks Any x)) (the_tree t)) found → Tells t (named_if t found)
+tells_if : (t : Tree) (found : Option Pointer) → NamesRiseInTree t → IsFirst (IsBadAt parts (λ x. IsTrue (breaks Any x)) (the_tree t)) found → Tells t (named_if t found)
 tells_if t None h f = keeps_all t f
-tells_if t (Some place) h f = named_from_tells t h
+tells_if t (Some pointer) h f = named_from_tells t h
 
 pub named_tells : (t : Tree) → NamesRiseInTree t → Tells t (named t)
-named_tells t h = tells_if t (first_place t Any) h (tree_first (breaks Any) t h)
+named_tells t h = tells_if t (first_pointer t Any) h (tree_first (breaks Any) t h)

@@ -1,4 +1,4 @@
--- The rules F2 to F7, and which of them is named at which place.
+-- The rules F2 to F7, and which of them is named at which pointer.
 use Rattle.std.specs.Prelude.{ℕ, ◌<◌, Bool, true, false, not, ◌&&◌, ◌||◌, nat_lt, List, [], ◌∷◌, ◌++◌, length, codes, Some, is_none, bytes_eq, IsTrue, if◌then◌else◌}
 use Rattle.std.specs.Option.{option_map_or}
 use Rattle.std.specs.List.{list_any}
@@ -8,7 +8,7 @@ use Rattle.gn_kinds.specs.declared.row.SocketKind.{SocketKind}
 use Rattle.gn_kinds.specs.declared.row.SocketKind.TheVariants.{Truth, Int, Fixed, Vector, Geometry}
 use Rattle.gn_kinds.specs.Row.{Text}
 use Rattle.gn_names.specs.First.{first_of}
-use Rattle.gn_places.specs.Place.{Place, IsBadAt, IsFirst}
+use Rattle.gn_pointers.specs.Pointers.{Pointer, IsBadAt, IsFirst}
 use Rattle.gn_tree.specs.Trees.{Link, Input, constant, link, links, Named, Node, node, Nodes, no_nodes, and_node, Tree}
 use Rattle.gn_cycle.specs.Graph.{Graph, Leads}
 use Rattle.gn_rules.specs.declared.rule.Rule.{Rule}
@@ -137,16 +137,16 @@ Breaks rule.Order x = BreaksOrder x
 Breaks rule.Height x = IsTrue (breaks_height x)
 Breaks rule.Count x = IsTrue (breaks_count x)
 
-abbrev pub IsBrokenAt : Tree → Rule → Place → Type 0
+abbrev pub IsBrokenAt : Tree → Rule → Pointer → Type 0
 IsBrokenAt t r = IsBadAt parts (Breaks r) (the_tree t)
 
 abbrev pub Keeps : Tree → Rule → Type 0
-Keeps t r = (place : Place) → ¬ IsBrokenAt t r place
+Keeps t r = (pointer : Pointer) → ¬ IsBrokenAt t r pointer
 
--- the least rule that is broken, and the first place where it is
-pub record IsNamed (t : Tree) (r : Rule) (place : Place) : Type 0 where
+-- the least rule that is broken, and the first pointer where it is
+pub record IsNamed (t : Tree) (r : Rule) (pointer : Pointer) : Type 0 where
   pub least : (q : Rule) → number_of q < number_of r → Keeps t q
-  pub first : IsFirst (IsBrokenAt t r) (Some place)
+  pub first : IsFirst (IsBrokenAt t r) (Some pointer)
 
 -- the tree keeps the rules F2 to F7
 abbrev pub KeepsRules : Tree → Type 0

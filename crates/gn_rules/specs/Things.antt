@@ -1,8 +1,8 @@
--- What stands at each place of a tree.
+-- What stands at each pointer of a tree.
 use Rattle.std.specs.Prelude.{ℕ, suc, List, [], ◌∷◌, map, codes, Option, Some, None}
 use Rattle.gn_kinds.specs.declared.row.SocketKind.TheVariants.{Geometry}
 use Rattle.gn_kinds.specs.Row.{Text}
-use Rattle.gn_places.specs.Place.{Step, index, key}
+use Rattle.gn_pointers.specs.Pointers.{Step, index, key}
 use Rattle.gn_tree.specs.Trees.{Socket, Link, Input, constant, link, links, Named, Node, node, Settings, no_settings, and_setting, and_zone, Nodes, no_nodes, and_node, Group, Tree, of_group}
 use Rattle.gn_rules.specs.declared.shape.Shape.{Shape}
 use Rattle.gn_rules.specs.Sockets.{Declared, single, one_of, declared, inputs_of}

@@ -1,10 +1,10 @@
 //! The rules F2 to F7 of a tree, as definitions.
 //!
-//! `specs` says what stands at each place of a tree (`Things`), which rules a thing breaks by itself
-//! (`Rules`), and which rule and place are named (`IsNamed`): the least rule that is broken anywhere,
-//! at the first place where it is. It has besides, in `Walk`, the same as a way through the tree, and
+//! `specs` says what stands at each pointer of a tree (`Things`), which rules a thing breaks by itself
+//! (`Rules`), and which rule and pointer are named (`IsNamed`): the least rule that is broken anywhere,
+//! at the first pointer where it is. It has besides, in `Walk`, the same as a way through the tree, and
 //! `named_tells` in `proofs` says that both agree. The rules stand on the trees of `gn_tree`, the table
-//! of kinds, the places of `gn_places` and the paths of `gn_cycle`; `gn_check` is the code.
+//! of kinds, the pointers of `gn_pointers` and the paths of `gn_cycle`; `gn_check` is the code.
 #![tactic(auto)]
 
 mod rule;

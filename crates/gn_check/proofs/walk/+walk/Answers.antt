@@ -1,8 +1,8 @@
 use Rattle.std.proofs.Common.{◌≡◌, ◌≤◌, ◌<◌, None, Some, map, codes, option_map, sym, ap, ◌∙◌, subst, arith}
 use Rattle.std.specs.Prelude.{slice_get}
 use Rattle.std.proofs.lemmas.Option.{slice_get-get_or}
-use Rattle.gn_places.specs.Place.{key, joined}
-use Rattle.gn_places.specs.Seen.{place_of}
+use Rattle.gn_pointers.specs.Pointers.{key, joined}
+use Rattle.gn_pointers.specs.Seen.{pointer_of}
 use Rattle.gn_tree.specs.Trees.{node_size, settings_size, nodes_size, no_settings}
 use Rattle.gn_tree.specs.Seen.{socket_of, named_of, nodes_of, setting_then, settings_of}
 use Rattle.gn_rules.specs.Scopes.{zone_scope}
@@ -36,7 +36,7 @@ in_node-returns t c =
     let r = c.args.scope.now.sought in
     let sc = scope_of c.args.scope.now in
     let n = c.args.node.now in
-    let same : option_map place_of c.in_ok-found-2.found ≡ in_settings (breaks r) sc (settings_in n) = c.in_ok-found-2.ensures ∙ ap (in_settings (breaks r) sc) c.settings_of.ensures in
+    let same : option_map pointer_of c.in_ok-found-2.found ≡ in_settings (breaks r) sc (settings_in n) = c.in_ok-found-2.ensures ∙ ap (in_settings (breaks r) sc) c.settings_of.ensures in
     in_rest (key (codes "in")) c.in_ok-found.found (in_inputs_of_node (breaks r) sc n) (joined (key (codes "set")) (in_settings (breaks r) sc (settings_in n)) None) (in_node (breaks r) sc c.args.number n) c.at_key-2.result
     (sym c.is_some.ensures ∙ c.if-is_some.false) c.in_ok-found.ensures (node_way r sc c.args.number n c.in_ok-node_breaks.field-0 c.in_ok-node_breaks.ensures c.if-branch.false)
     (in_last (key (codes "set")) c.in_ok-found-2.found (in_settings (breaks r) sc (settings_in n)) c.at_key-2.result same c.at_key-2.ensures)
@@ -86,7 +86,7 @@ in_zone-returns-then-is_some-2 t c =
     let rest = joined (key (codes "nodes")) (first_node (breaks r) inner 0 nodes) last in
     let same = ap (map socket_of) (c.in_ok-items.ensures ∙ c.deref.ensures.value) in
     let way = zone_way r sc z sockets inner nodes same c.in_ok-inner.ensures.seen (ap (λ s. s.nodes) c.in_ok-inner.ensures.seen) in
-    let found : option_map place_of c.in_ok-found-2.found ≡ first_node (breaks r) inner 0 nodes = c.in_ok-found-2.ensures ∙ nodes_way r c.in_ok-inner.inner.sought inner inner nodes nodes c.in_ok-inner.ensures.looked_for (λ _. inner) (λ _. nodes) in
+    let found : option_map pointer_of c.in_ok-found-2.found ≡ first_node (breaks r) inner 0 nodes = c.in_ok-found-2.ensures ∙ nodes_way r c.in_ok-inner.inner.sought inner inner nodes nodes c.in_ok-inner.ensures.looked_for (λ _. inner) (λ _. nodes) in
     in_rest (key (codes "items")) c.in_ok-found.found (in_sockets (breaks r) sockets) rest (in_zone (breaks r) sc z) c.at_key-then-is_some-2.result
     (sym c.is_some.ensures ∙ c.if-is_some.false) c.in_ok-found.ensures way
     (in_first (key (codes "nodes")) c.in_ok-found-2.found (first_node (breaks r) inner 0 nodes) last rest c.at_key-then-is_some-2.result (sym c.is_some-2.ensures ∙ c.if-is_some-2.true) found (λ _. rest) c.at_key-then-is_some-2.ensures)
@@ -104,8 +104,8 @@ in_zone-returns t c =
     let rest = joined (key (codes "nodes")) (first_node (breaks r) inner 0 nodes) last in
     let same = ap (map socket_of) (c.in_ok-items.ensures ∙ c.deref.ensures.value) in
     let way = zone_way r sc z sockets inner nodes same c.in_ok-inner.ensures.seen (ap (λ s. s.nodes) c.in_ok-inner.ensures.seen) in
-    let found : option_map place_of c.in_ok-found-2.found ≡ first_node (breaks r) inner 0 nodes = c.in_ok-found-2.ensures ∙ nodes_way r c.in_ok-inner.inner.sought inner inner nodes nodes c.in_ok-inner.ensures.looked_for (λ _. inner) (λ _. nodes) in
-    let given : option_map place_of c.in_ok-found-3.found ≡ output =
+    let found : option_map pointer_of c.in_ok-found-2.found ≡ first_node (breaks r) inner 0 nodes = c.in_ok-found-2.ensures ∙ nodes_way r c.in_ok-inner.inner.sought inner inner nodes nodes c.in_ok-inner.ensures.looked_for (λ _. inner) (λ _. nodes) in
+    let given : option_map pointer_of c.in_ok-found-3.found ≡ output =
     c.in_ok-found-3.ensures ∙ (ap (λ q. in_given_out (breaks q) inner sockets (map named_of c.deref-2.result.now)) c.in_ok-inner.ensures.looked_for ∙ ap (λ xs. in_given_out (breaks r) inner sockets (map named_of xs)) c.deref-2.ensures.value) in
     in_rest (key (codes "items")) c.in_ok-found.found (in_sockets (breaks r) sockets) rest (in_zone (breaks r) sc z) c.at_key-2.result
     (sym c.is_some.ensures ∙ c.if-is_some.false) c.in_ok-found.ensures way

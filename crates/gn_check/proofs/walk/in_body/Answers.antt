@@ -1,8 +1,8 @@
 use Rattle.std.proofs.Common.{◌≡◌, None, Some, map, length, codes, option_map, sym, ap, ◌∙◌, refl}
 use Rattle.std.proofs.lemmas.List.{length-map}
 use Rattle.gn_kinds.specs.declared.row.SocketKind.TheVariants.{Geometry}
-use Rattle.gn_places.specs.Place.{key, joined}
-use Rattle.gn_places.specs.Seen.{place_of}
+use Rattle.gn_pointers.specs.Pointers.{key, joined}
+use Rattle.gn_pointers.specs.Seen.{pointer_of}
 use Rattle.gn_tree.specs.Seen.{group_of, input_of, nodes_of, tree_of}
 use Rattle.gn_rules.specs.Sockets.{single}
 use Rattle.gn_rules.specs.Scopes.{tree_scope}
@@ -20,7 +20,7 @@ returns-then-is_some c =
     let size : length c.args.groups.now.list.now ≡ length gs = simp length-map in
     let seen : scope_of c.in_ok-scope.scope ≡ tree_scope t = tree_scope_way t gs (length c.args.groups.now.list.now) (scope_of c.in_ok-scope.scope) (ap (map group_of) c.requires) size c.in_ok-scope.ensures.seen in
     let first = first_node (breaks r) (tree_scope t) 0 t.nodes in
-    let found : option_map place_of c.in_ok-found.found ≡ first =
+    let found : option_map pointer_of c.in_ok-found.found ≡ first =
     c.in_ok-found.ensures ∙ nodes_way r c.in_ok-scope.scope.sought (scope_of c.in_ok-scope.scope) (tree_scope t) (nodes_of c.in_ok-scope.scope.nodes.now.items) t.nodes c.in_ok-scope.ensures.looked_for seen (ap (λ s. s.nodes) seen) in
     in_first (key (codes "nodes")) c.in_ok-found.found first (in_output (breaks r) (tree_scope t) t.output) (in_body (breaks r) t) c.at_key.result (sym c.is_some.ensures ∙ c.if-is_some.true) found refl c.at_key.ensures
 
@@ -32,11 +32,11 @@ returns-in-Some c =
     let size : length c.args.groups.now.list.now ≡ length gs = simp length-map in
     let seen : scope_of c.in_ok-scope.scope ≡ tree_scope t = tree_scope_way t gs (length c.args.groups.now.list.now) (scope_of c.in_ok-scope.scope) (ap (map group_of) c.requires) size c.in_ok-scope.ensures.seen in
     let first = first_node (breaks r) (tree_scope t) 0 t.nodes in
-    let found : option_map place_of c.in_ok-found.found ≡ first =
+    let found : option_map pointer_of c.in_ok-found.found ≡ first =
     c.in_ok-found.ensures ∙ nodes_way r c.in_ok-scope.scope.sought (scope_of c.in_ok-scope.scope) (tree_scope t) (nodes_of c.in_ok-scope.scope.nodes.now.items) t.nodes c.in_ok-scope.ensures.looked_for seen (ap (λ s. s.nodes) seen) in
     let x = input_of c.in-Some.input in
     let last = in_input (breaks r) (tree_scope t) (Some (single Geometry)) x in
-    let given : option_map place_of c.in_ok-found-in-Some.found ≡ last =
+    let given : option_map pointer_of c.in_ok-found-in-Some.found ≡ last =
     c.in_ok-found-in-Some.ensures ∙ output_way r c.in_ok-scope.scope.sought (scope_of c.in_ok-scope.scope) (tree_scope t) (Some c.single.result) (Some (single Geometry)) x c.in_ok-scope.ensures.looked_for seen (ap Some c.single.ensures) in
     let written : t.output ≡ Some x = ap (option_map input_of) c.in-Some.is in
     in_rest (key (codes "nodes")) c.in_ok-found.found first (in_output (breaks r) (tree_scope t) t.output) (in_body (breaks r) t) c.at_key-in-Some.result (sym c.is_some.ensures ∙ c.if-is_some.false) found refl
@@ -51,7 +51,7 @@ returns c =
     let size : length c.args.groups.now.list.now ≡ length gs = simp length-map in
     let seen : scope_of c.in_ok-scope.scope ≡ tree_scope t = tree_scope_way t gs (length c.args.groups.now.list.now) (scope_of c.in_ok-scope.scope) (ap (map group_of) c.requires) size c.in_ok-scope.ensures.seen in
     let first = first_node (breaks r) (tree_scope t) 0 t.nodes in
-    let found : option_map place_of c.in_ok-found.found ≡ first =
+    let found : option_map pointer_of c.in_ok-found.found ≡ first =
     c.in_ok-found.ensures ∙ nodes_way r c.in_ok-scope.scope.sought (scope_of c.in_ok-scope.scope) (tree_scope t) (nodes_of c.in_ok-scope.scope.nodes.now.items) t.nodes c.in_ok-scope.ensures.looked_for seen (ap (λ s. s.nodes) seen) in
     let written : t.output ≡ None = ap (option_map input_of) c.in-None.is in
     sym (rest_alone (key (codes "nodes")) c.in_ok-found.found first (in_output (breaks r) (tree_scope t) t.output) (sym c.is_some.ensures ∙ c.if-is_some.false) found ∙ ap (in_output (breaks r) (tree_scope t)) written)
