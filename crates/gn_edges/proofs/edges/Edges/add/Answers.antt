@@ -1,0 +1,18 @@
+use Rattle.std.proofs.Common.{◌≡◌, ◌∙◌, sym, ap, map}
+use Rattle.std.specs.List.{position_or_len}
+use Rattle.gn_plain.specs.Edges.{is_edge, with_edge}
+use Rattle.gn_plain.specs.Topology.{edge_of}
+use Rattle.gn_edges.proofs.Lists.{edges_with, edge_number}
+use Rattle.gn_edges.proofs.edges.Edges.add.Goals as goal
+
+pub returns-clause-edges : goal.returns-clause-edges
+returns-clause-edges c =
+    rw (← c.self.view_is)
+    (ap (map edge_of) c.in_ok-number.ensures.pairs ∙ edges_with c.self.inside.pairs.items c.edge_between-edge.result
+    ∙ ap (with_edge (map edge_of c.self.inside.pairs.items)) c.edge_between-edge.ensures)
+
+pub returns-clause-number : goal.returns-clause-number
+returns-clause-number c =
+    rw (← c.self.view_is)
+    (c.in_ok-number.ensures.number ∙ sym (edge_number c.self.inside.pairs.items c.edge_between-edge.result)
+    ∙ ap (λ e. position_or_len (is_edge e) (map edge_of c.self.inside.pairs.items)) c.edge_between-edge.ensures)
