@@ -1,5 +1,6 @@
 -- Pairs that are put into a list, and the edges that they are.
-use Rattle.std.proofs.Common.{◌≡◌, ℕ, ◌+◌, Bool, true, false, cond, not, ◌||◌, List, [], ◌∷◌, ◌++◌, map, refl, ap}
+use Rattle.std.proofs.Common.{◌≡◌, ℕ, ◌+◌, Bool, true, false, cond, not, ◌||◌, List, [], ◌∷◌, ◌++◌, map, length, suc, eqb, refl, ap, ◌∙◌, arith}
+use Rattle.std.proofs.lemmas.Bool.Decides.{nat_tests}
 use Rattle.std.specs.List.{list_any, position_or_len}
 use Rattle.std.proofs.lemmas.List.{map-append}
 use Rattle.gn_plain.specs.Edges.{is_edge, with_edge}
@@ -23,3 +24,12 @@ edges_with pairs e = rw (any_mapped (is_edge (edge_of e)) edge_of pairs) (by (li
 
 pub edge_number : (pairs : List (ℕ × ℕ)) (e : ℕ × ℕ) → position_or_len (is_edge (edge_of e)) (map edge_of pairs) ≡ position_or_len (is_pair e) pairs
 edge_number pairs e = position_mapped (is_edge (edge_of e)) edge_of pairs
+
+behind_at : (b a : Bool) (n count : ℕ) → eqb n count ≡ not a → eqb (cond (not b) (1 + n) 0) (suc count) ≡ not (b || a)
+behind_at true a n count h = grind (arith, nat_tests)
+behind_at false a n count h = let e : eqb (1 + n) (suc count) ≡ eqb n count = grind (arith, nat_tests) in e ∙ h
+
+-- an element that is none of the others is found behind them
+pub found_behind : (p : ℕ × ℕ → Bool) (xs : List (ℕ × ℕ)) → eqb (position_or_len p xs) (length xs) ≡ not (list_any p xs)
+found_behind p [] = refl
+found_behind p (x ∷ xs) = behind_at (p x) (list_any p xs) (position_or_len p xs) (length xs) (found_behind p xs)

@@ -1,5 +1,5 @@
-ghost use Rattle.std.specs.Prelude.{◌≡◌, ◌+◌, ◌-◌, ◌<◌, ◌≤◌, ◌^◌, ◌++◌, ℕ, List, [], ◌∷◌, length, map, nat_lt, Option, IfOk, OnOk, OnErr};
-ghost use Rattle.std.specs.List.{position_or_len};
+ghost use Rattle.std.specs.Prelude.{◌≡◌, ◌+◌, ◌-◌, ◌<◌, ◌≤◌, ◌^◌, ◌++◌, ℕ, List, [], ◌∷◌, length, map, not, nat_lt, Option, IfOk, OnOk, OnErr};
+ghost use Rattle.std.specs.List.{list_any, position_or_len};
 ghost use Rattle.gn_plain.specs.Edges.{is_edge, edge_between, with_edge};
 ghost use Rattle.gn_plain.specs.Topology.{edge_of};
 ghost use Rattle.gn_edges.specs.Kept.{IsKept, is_pair, with_pair, walk, first_link, found};
@@ -179,6 +179,8 @@ impl Edges {
     pub fn add(&mut self, a: u32, b: u32) -> Result<usize, Memory>
         ensures edges { OnOk result (map edge_of self.new ≡ with_edge (map edge_of self.old) (edge_between a b)) }
         ensures number { IfOk result (λ n. n ≡ position_or_len (is_edge (edge_between a b)) (map edge_of self.old)) }
+        ensures within { IfOk result (λ n. n ≤ length self.old) }
+        ensures few { OnOk result (length self.new ≤ length self.old + 1) }
         ensures refused { OnErr result (self.new ≡ self.old) }
     {
         let edge = edge_between(a, b);
@@ -190,6 +192,24 @@ impl Edges {
             edge,
         )?;
         Ok(number)
+    }
+
+    /// Puts an edge, of which the lesser vertex is told first, behind the others, unless it is one of
+    /// them, and tells whether it is new. Want of memory changes nothing.
+    pub fn insert(&mut self, edge: (u32, u32)) -> Result<bool, Memory>
+        ensures edges { OnOk result (self.new ≡ with_pair self.old edge) }
+        ensures new { IfOk result (λ new. new ≡ not (list_any (is_pair edge) self.old)) }
+        ensures refused { OnErr result (self.new ≡ self.old) }
+    {
+        let count = self.pairs.len();
+        let number = add_pair(
+            &mut self.pairs,
+            &mut self.first,
+            &mut self.next,
+            &mut self.crowd,
+            edge,
+        )?;
+        Ok(number == count)
     }
 
     /// The edges as a list.
