@@ -63,18 +63,18 @@ at_number pairs first next crowd e k kept h =
     let passes : is_pair e (get_or pairs k (0, 0)) ≡ true = (pair_decides e (get_or pairs k (0, 0))).1 (sym there.1) in
     let number : List ℕ → Type 0 = λ x. ℕ in
     let before : (j : ℕ) → j < k → is_pair e (get_or pairs j (0, 0)) ≡ false =
-        λ j below. differ e (get_or pairs j (0, 0)) (λ same.
-          let earlier : number_of pairs first next crowd e ≡ Some j = subst (λ (x : ℕ × ℕ). number_of pairs first next crowd x ≡ Some j) same (kept.each j (omega (arith, there.0))) in
-          let equal : j ≡ k = some_same j k (sym earlier ∙ h) in
-          omega arith) in
+    λ j below. differ e (get_or pairs j (0, 0)) (λ same.
+    let earlier : number_of pairs first next crowd e ≡ Some j = subst (λ (x : ℕ × ℕ). number_of pairs first next crowd x ≡ Some j) same (kept.each j (omega (arith, there.0))) in
+    let equal : j ≡ k = some_same j k (sym earlier ∙ h) in
+    omega arith) in
     let any : list_any (is_pair e) pairs ≡ true = any_at (is_pair e) pairs k there.0 passes in
     (rw any refl, sym (position_or_len_is (is_pair e) pairs k (0, 0) (omega (arith, there.0)) before (λ l. passes)))
 
 pub no_number : (pairs : List (ℕ × ℕ)) (first next : List ℕ) (crowd : BTreeMap (ℕ × ℕ) ℕ) (e : ℕ × ℕ) → IsKept pairs first next crowd → number_of pairs first next crowd e ≡ None → (with_pair pairs e ≡ pairs ++ e ∷ []) × (length pairs ≡ position_or_len (is_pair e) pairs)
 no_number pairs first next crowd e kept h =
     let fails : (j : ℕ) → j < length pairs → is_pair e (get_or pairs j (0, 0)) ≡ false =
-        λ j below. differ e (get_or pairs j (0, 0)) (λ same.
-          none_some j (number_of pairs first next crowd e) h (subst (λ (x : ℕ × ℕ). number_of pairs first next crowd x ≡ Some j) same (kept.each j below))) in
+    λ j below. differ e (get_or pairs j (0, 0)) (λ same.
+    none_some j (number_of pairs first next crowd e) h (subst (λ (x : ℕ × ℕ). number_of pairs first next crowd x ≡ Some j) same (kept.each j below))) in
     let any : list_any (is_pair e) pairs ≡ false = any_none (is_pair e) pairs fails in
     (rw any refl, sym (position_or_len_is (is_pair e) pairs (length pairs) (0, 0) (omega arith) fails (λ l. absurd (omega (arith, l)))))
 
@@ -93,7 +93,7 @@ nexts_pushed : (next : List ℕ) (n x : ℕ) → length next ≡ n → x ≤ n �
 nexts_pushed next n x paired small nexts k =
     ⊎_elim (λ (h : k < length next). rw (get_or_append_left next (x ∷ []) 0 k h) (omega (arith, nexts k)))
     (λ (h : length next ≤ k). ⊎_elim (λ e. rw (get_or_push next x 0 k e) (omega arith))
-      (λ ne. rw (get_or_past (next ++ x ∷ []) k 0 (omega (arith, length_push next x))) (omega arith)) (cases_eq (length next) k))
+    (λ ne. rw (get_or_past (next ++ x ∷ []) k 0 (omega (arith, length_push next x))) (omega arith)) (cases_eq (length next) k))
     (below k (length next))
   where
     below : (a b : ℕ) → (a < b) ⊎ (b ≤ a)
@@ -170,7 +170,7 @@ module _ (pairs : List (ℕ × ℕ)) (first next : List ℕ) (crowd : BTreeMap (
         let test : is_pair e (get_or (pairs ++ e ∷ []) (length pairs) (0, 0)) ≡ true = rw here ((pair_decides e e).1 refl) in
         let link : get_or (set first e.0 (length pairs + 1)) e.0 0 ≡ suc (length pairs) = omega (arith, link_same e.0 refl) in
         let place : walk (pairs ++ e ∷ []) (next ++ get_or first e.0 0 ∷ []) e 8 (get_or (set first e.0 (length pairs + 1)) e.0 0) ≡ At (length pairs) =
-            walk_at (pairs ++ e ∷ []) (next ++ get_or first e.0 0 ∷ []) e 8 (get_or (set first e.0 (length pairs + 1)) e.0 0) (length pairs) (omega arith) link test in
+        walk_at (pairs ++ e ∷ []) (next ++ get_or first e.0 0 ∷ []) e 8 (get_or (set first e.0 (length pairs + 1)) e.0 0) (length pairs) (omega arith) link test in
         rw place refl
 
     pub kept_listed : IsKept (pairs ++ e ∷ []) (set first e.0 (length pairs + 1)) (next ++ get_or first e.0 0 ∷ []) crowd
@@ -182,12 +182,12 @@ module _ (pairs : List (ℕ × ℕ)) (first next : List ℕ) (crowd : BTreeMap (
       nexts = λ k. omega (arith, length_push pairs e, nexts_pushed next (length pairs) (get_or first e.0 0) kept.paired (kept.firsts e.0) kept.nexts k);
       each = λ k below.
           ⊎_elim (λ old.
-            let q = get_or_append_left pairs (e ∷ []) (0, 0) k old in
-            subst (λ (x : ℕ × ℕ). number_of (pairs ++ e ∷ []) (set first e.0 (length pairs + 1)) (next ++ get_or first e.0 0 ∷ []) crowd x ≡ Some k) (sym q)
-            (old_listed (get_or pairs k (0, 0)) k (λ same. listed_apart k old (sym same)) (kept.each k old)))
+          let q = get_or_append_left pairs (e ∷ []) (0, 0) k old in
+          subst (λ (x : ℕ × ℕ). number_of (pairs ++ e ∷ []) (set first e.0 (length pairs + 1)) (next ++ get_or first e.0 0 ∷ []) crowd x ≡ Some k) (sym q)
+          (old_listed (get_or pairs k (0, 0)) k (λ same. listed_apart k old (sym same)) (kept.each k old)))
           (λ new.
-            let q : get_or (pairs ++ e ∷ []) k (0, 0) ≡ e = get_or_push pairs e (0, 0) k (sym new) in
-            subst (λ (x : ℕ × ℕ). number_of (pairs ++ e ∷ []) (set first e.0 (length pairs + 1)) (next ++ get_or first e.0 0 ∷ []) crowd x ≡ Some k) (sym q) (new_number ∙ ap (λ n. Some n) (sym new)))
+          let q : get_or (pairs ++ e ∷ []) k (0, 0) ≡ e = get_or_push pairs e (0, 0) k (sym new) in
+          subst (λ (x : ℕ × ℕ). number_of (pairs ++ e ∷ []) (set first e.0 (length pairs + 1)) (next ++ get_or first e.0 0 ∷ []) crowd x ≡ Some k) (sym q) (new_number ∙ ap (λ n. Some n) (sym new)))
           (cases_below k (length pairs) (omega (arith, length_push pairs e)));
       crowded = λ q k h.
           let old = kept.crowded q k h in
@@ -251,21 +251,21 @@ module _ (pairs : List (ℕ × ℕ)) (first next : List ℕ) (crowd crowd' : BTr
       nexts = λ k. omega (arith, length_push pairs e, nexts_pushed next (length pairs) 0 kept.paired (omega arith) kept.nexts k);
       each = λ k below.
           ⊎_elim (λ old.
-            let q = get_or_append_left pairs (e ∷ []) (0, 0) k old in
-            subst (λ (x : ℕ × ℕ). number_of (pairs ++ e ∷ []) first (next ++ 0 ∷ []) crowd' x ≡ Some k) (sym q)
-            (old_crowded (get_or pairs k (0, 0)) k (λ same. crowded_apart k old (sym same)) (kept.each k old)))
+          let q = get_or_append_left pairs (e ∷ []) (0, 0) k old in
+          subst (λ (x : ℕ × ℕ). number_of (pairs ++ e ∷ []) first (next ++ 0 ∷ []) crowd' x ≡ Some k) (sym q)
+          (old_crowded (get_or pairs k (0, 0)) k (λ same. crowded_apart k old (sym same)) (kept.each k old)))
           (λ new.
-            let q : get_or (pairs ++ e ∷ []) k (0, 0) ≡ e = get_or_push pairs e (0, 0) k (sym new) in
-            subst (λ (x : ℕ × ℕ). number_of (pairs ++ e ∷ []) first (next ++ 0 ∷ []) crowd' x ≡ Some k) (sym q) (crowd_number ∙ ap (λ n. Some n) (sym new)))
+          let q : get_or (pairs ++ e ∷ []) k (0, 0) ≡ e = get_or_push pairs e (0, 0) k (sym new) in
+          subst (λ (x : ℕ × ℕ). number_of (pairs ++ e ∷ []) first (next ++ 0 ∷ []) crowd' x ≡ Some k) (sym q) (crowd_number ∙ ap (λ n. Some n) (sym new)))
           (cases_below k (length pairs) (omega (arith, length_push pairs e)));
       crowded = λ q k h.
           ⊎_elim (λ t.
-            let same : e ≡ q = (pair_decides e q).0 t in
-            let number : length pairs ≡ k = some_same (length pairs) k (sym updates.1 ∙ subst (λ (x : ℕ × ℕ). get pair_cmp crowd' x ≡ Some k) (sym same) h) in
-            (omega (arith, length_push pairs e, number), get_or_push pairs e (0, 0) k number ∙ same))
+          let same : e ≡ q = (pair_decides e q).0 t in
+          let number : length pairs ≡ k = some_same (length pairs) k (sym updates.1 ∙ subst (λ (x : ℕ × ℕ). get pair_cmp crowd' x ≡ Some k) (sym same) h) in
+          (omega (arith, length_push pairs e, number), get_or_push pairs e (0, 0) k number ∙ same))
           (λ f.
-            let other : e ≡ q → ⊥ = λ same. both_ways (is_pair e q) f ((pair_decides e q).1 same) in
-            let old = kept.crowded q k (sym (updates.2 q (apart_at e q other)) ∙ h) in
-            (omega (arith, length_push pairs e, old.0), get_or_append_left pairs (e ∷ []) (0, 0) k old.0 ∙ old.1))
+          let other : e ≡ q → ⊥ = λ same. both_ways (is_pair e q) f ((pair_decides e q).1 same) in
+          let old = kept.crowded q k (sym (updates.2 q (apart_at e q other)) ∙ h) in
+          (omega (arith, length_push pairs e, old.0), get_or_append_left pairs (e ∷ []) (0, 0) k old.0 ∙ old.1))
           (cases_Bool (is_pair e q));
     }

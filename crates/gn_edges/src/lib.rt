@@ -17,3 +17,6 @@ mod place;
 
 pub use edges::Edges;
 pub use pair::edge_between;
+
+#[cfg(test)]
+mod tests;

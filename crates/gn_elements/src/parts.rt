@@ -50,11 +50,7 @@ fn add_edges_along(edges: &mut Edges, row: &[u32]) -> Result<(), Memory>
 
 /// Puts the edges around a face behind the others, each unless it is one of them, and the number of
 /// each behind other numbers.
-fn add_edges_around(
-    edges: &mut Edges,
-    numbers: &mut Vec<u32>,
-    face: &[u32],
-) -> Result<(), Memory>
+fn add_edges_around(edges: &mut Edges, numbers: &mut Vec<u32>, face: &[u32]) -> Result<(), Memory>
     requires { length (edges_in edges.old) + length face.now < 2 ^ 32 }
     ensures edges { OnOk result (edges_in edges.new ≡ fold with_edge (edges_in edges.old) (edges_around face.now)) }
     ensures numbers { OnOk result (numbers.new.items ≡ numbers.old.items ++ numbers_among (edges_in edges.old) (edges_around face.now)) }

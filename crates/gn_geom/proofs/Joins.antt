@@ -27,9 +27,10 @@ distinct_none = tt
 pub distinct_more : (edges seen new : List (ℕ × ℕ)) (i : ℕ) → i < length edges → seen ≡ take i edges → IsDistinct is_pair seen
     → list_any (is_pair (get_or edges i (0, 0))) seen ≡ false → new ≡ with_pair seen (get_or edges i (0, 0)) → (new ≡ take (i + 1) edges) × IsDistinct is_pair new
 distinct_more edges seen new i here same distinct apart with =
-    let pushed : new ≡ seen ++ get_or edges i (0, 0) ∷ [] = with ∙ rw apart refl in
-    (pushed ∙ ap (λ s. s ++ get_or edges i (0, 0) ∷ []) same ∙ sym (take_more edges i (0, 0) here),
-    subst (λ (s : List (ℕ × ℕ)). IsDistinct is_pair s) (sym pushed) (IsDistinct-push pair_equiv seen (get_or edges i (0, 0)) distinct apart))
+    let pushed : new ≡ seen ++ get_or edges i (0, 0) ∷ [] = with ∙ rw apart refl in (
+      pushed ∙ ap (λ s. s ++ get_or edges i (0, 0) ∷ []) same ∙ sym (take_more edges i (0, 0) here),
+      subst (λ (s : List (ℕ × ℕ)). IsDistinct is_pair s) (sym pushed) (IsDistinct-push pair_equiv seen (get_or edges i (0, 0)) distinct apart),
+    )
 
 pub edge_of_same : (a b : ℕ × ℕ) → edge_of a ≡ edge_of b → a ≡ b
 edge_of_same a b e = λ i. (ap (λ x. x.lesser) e i, ap (λ x. x.greater) e i)
