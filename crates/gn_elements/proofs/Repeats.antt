@@ -1,7 +1,10 @@
 -- Rows in which no vertex stands twice.
-use Rattle.std.proofs.Common.{◌≡◌, ℕ, Bool, true, false, not, ◌&&◌, ◌||◌, ◌==◌, cond, eqb, suc, ◌+◌, ◌<◌, length, get_or, drop, List, [], ◌∷◌, ◌++◌, refl, sym, ap, ◌∙◌, drop-cons, add-one, append_assoc}
+use Rattle.std.proofs.Common.{◌≡◌, ℕ, Bool, true, false, not, ◌&&◌, ◌||◌, ◌==◌, cond, eqb, suc, ◌+◌, ◌<◌, length, get_or, take, drop, List, [], ◌∷◌, ◌++◌, refl, sym, ap, ◌∙◌, drop-cons, arith}
 use Rattle.std.specs.List.{list_any}
+use Rattle.std.specs.Ordering.{is_eq, nat_cmp}
+use Rattle.std.proofs.lemmas.List.{take_more, take-append-drop}
 use Rattle.std.proofs.lemmas.List.Folds.{list_any-append}
+use Rattle.std.proofs.lemmas.Bool.Decides.{nat_tests}
 use Rattle.gn_elements.specs.Read.{all_differ}
 
 both_true : (a b : Bool) → (not a && b) ≡ true → (a ≡ false) × (b ≡ true)
@@ -43,15 +46,27 @@ pub all_differ-again : (ks : List ℕ) (v : ℕ) (vs : List ℕ) → list_any (e
 all_differ-again [] v vs h = cc
 all_differ-again (u ∷ ks) v vs h = again-at u v ks vs (eqb v u) refl h (all_differ-again ks v vs)
 
--- vertices of which the first i are those before v
-module _ (ks vs : List ℕ) (i v : ℕ) (split : ks ++ drop i vs ≡ vs) (here : i < length vs) (is : v ≡ get_or vs i 0) where
-  whole : ks ++ (v ∷ drop (suc i) vs) ≡ vs
-  whole = ap (λ u. ks ++ (u ∷ drop (suc i) vs)) is ∙ ap (λ r. ks ++ r) (sym (drop-cons vs i 0 here)) ∙ split
+either_last : (a b c : Bool) → b ≡ c → cond b true a ≡ (a || (c || false))
+either_last true true c e = refl
+either_last true false c e = refl
+either_last false true c e = rw (← e) refl
+either_last false false c e = rw (← e) refl
 
-  pub stands_twice : list_any (eqb v) ks ≡ true → all_differ vs ≡ false
-  stands_twice h = ap all_differ (sym whole) ∙ all_differ-again ks v (drop (suc i) vs) h
+is_at_same : (v q : ℕ) → is_eq (nat_cmp v q) ≡ eqb q v
+is_at_same v q = grind (arith, nat_tests)
 
-  pub one_vertex_more : (new : List ℕ) → all_differ ks ≡ true → list_any (eqb v) ks ≡ false → new ≡ cond (list_any (eqb v) ks) ks (ks ++ v ∷ []) → (new ++ drop (i + 1) vs ≡ vs) × (all_differ new ≡ true)
-  one_vertex_more new d h k =
-      let e : new ≡ ks ++ v ∷ [] = k ∙ rw h refl in
-      (rw (e, add-one) (append_assoc ks (v ∷ []) (drop (suc i) vs) ∙ whole), rw e (all_differ-more ks v d h))
+-- a vertex behind the first i
+module _ (vs : List ℕ) (i : ℕ) (here : i < length vs) where
+  whole : take i vs ++ (get_or vs i 0 ∷ drop (suc i) vs) ≡ vs
+  whole = ap (λ r. take i vs ++ r) (sym (drop-cons vs i 0 here)) ∙ take-append-drop i vs
+
+  pub stands_twice : list_any (eqb (get_or vs i 0)) (take i vs) ≡ true → all_differ vs ≡ false
+  stands_twice h = ap all_differ (sym whole) ∙ all_differ-again (take i vs) (get_or vs i 0) (drop (suc i) vs) h
+
+  pub one_vertex_more : all_differ (take i vs) ≡ true → list_any (eqb (get_or vs i 0)) (take i vs) ≡ false → all_differ (take (i + 1) vs) ≡ true
+  one_vertex_more d h = rw (take_more vs i 0 here) (all_differ-more (take i vs) (get_or vs i 0) d h)
+
+  pub one_key_more : (q : ℕ) (before after : Bool) → after ≡ cond (is_eq (nat_cmp (get_or vs i 0) q)) true before → before ≡ list_any (eqb q) (take i vs) → after ≡ list_any (eqb q) (take (i + 1) vs)
+  one_key_more q before after e h =
+      rw (take_more vs i 0 here, list_any-append (eqb q) (take i vs) (get_or vs i 0 ∷ []))
+      (e ∙ either_last before (is_eq (nat_cmp (get_or vs i 0) q)) (eqb q (get_or vs i 0)) (is_at_same (get_or vs i 0) q) ∙ ap (λ b. b || (eqb q (get_or vs i 0) || false)) h)

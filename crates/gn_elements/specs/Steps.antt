@@ -2,7 +2,6 @@
 use Rattle.std.specs.Prelude.{◌≡◌, ℕ, ◌≤◌, nat_lt, if◌then◌else◌, Bool, true, false, List, map, drop, Result, Ok, Err, Some, None}
 use Rattle.gn_value.specs.declared.fixed.Fx.{Fx}
 use Rattle.gn_value.specs.declared.vector.V3.{V3}
-use Rattle.indexmap.specs.IndexSet.{IndexSet}
 use Rattle.gn_plain.specs.Edges.{Edge}
 use Rattle.gn_plain.specs.Topology.{edge_of}
 use Rattle.gn_lines.specs.Lines.{Text}
@@ -43,8 +42,9 @@ abbrev pub IsPosition : List Text → Result V3 Rule → Type 0
 IsPosition words (Ok p) = vertex_of words ≡ Ok (vertex p)
 IsPosition words (Err rule) = vertex_of words ≡ Err (rule_number rule)
 
-abbrev pub edges_in : {S : Type 0} → IndexSet (ℕ × ℕ) S → List Edge
-edges_in s = map edge_of s.keys
+-- pairs of vertices as edges
+abbrev pub edges_in : List (ℕ × ℕ) → List Edge
+edges_in pairs = map edge_of pairs
 
 -- the parts with those of an element, or the rule that is broken
 abbrev pub Grows : Growing → Result Element ℕ → Growing → Result (Unit {0}) Rule → Type 0

@@ -2,8 +2,8 @@ ghost use Rattle.std.specs.Prelude.{◌≡◌, IfOk};
 ghost use Rattle.gn_elements.specs.Read.{all_differ};
 
 use gn_memory::Memory;
-use indexmap::IndexSet;
 use std::alloc::Global;
+use std::collections::BTreeSet;
 
 /// Up to so many vertices are compared with each other.
 const FEW: usize = 16;
@@ -24,7 +24,7 @@ fn few_differ(vertices: &[u32]) -> bool
 fn many_differ(alloc: Global, vertices: &[u32]) -> Result<bool, Memory>
     ensures { IfOk result (λ differ. differ ≡ all_differ vertices.now) }
 {
-    let mut seen = IndexSet::with_capacity(alloc, vertices.len())?;
+    let mut seen = BTreeSet::new(alloc);
     for vertex in vertices {
         if !seen.insert(*vertex)? {
             return Ok(false);

@@ -8,9 +8,9 @@ ghost use Rattle.gn_elements.specs.Steps.{Grows, edges_in};
 ghost use Rattle.gn_elements.specs.Seen.{growing};
 
 use crate::rule::Rule;
+use gn_edges::Edges;
 use gn_memory::Memory;
 use gn_value::V3;
-use indexmap::IndexSet;
 use std::alloc::Global;
 
 /// How many vertices, edges, faces or corners a mesh has at most.
@@ -22,7 +22,7 @@ pub struct Parts {
     /// Where the vertices are.
     pub points: Vec<V3>,
     /// The different edges in the order in which they came, the lesser vertex first.
-    pub edges: IndexSet<(u32, u32)>,
+    pub edges: Edges,
     /// The vertex of each corner.
     pub corner_points: Vec<u32>,
     /// The edge of each corner.
@@ -31,27 +31,8 @@ pub struct Parts {
     pub faces: Vec<u32>,
 }
 
-/// The edge between two vertices: the lesser number, and then the greater.
-fn edge_between(a: u32, b: u32) -> (u32, u32)
-    ensures { edge_of result ≡ edge_between a b }
-{
-    if b < a { (b, a) } else { (a, b) }
-}
-
-/// Puts the edge between two vertices behind the others, unless it is one of them, and tells where
-/// it is.
-fn add_edge(edges: &mut IndexSet<(u32, u32)>, a: u32, b: u32) -> Result<usize, Memory>
-    ensures edges { OnOk result (edges_in edges.new ≡ with_edge (edges_in edges.old) (edge_between a b)) }
-    ensures number { IfOk result (λ n. n ≡ position_or_len (is_edge (edge_between a b)) (edges_in edges.old)) }
-    ensures within { IfOk result (λ n. n ≤ length (edges_in edges.old)) }
-    ensures few { OnOk result (length (edges_in edges.new) ≤ length (edges_in edges.old) + 1) }
-{
-    let (number, _) = edges.insert_full(edge_between(a, b))?;
-    Ok(number)
-}
-
 /// Puts the edges between neighbours that differ behind the others, each unless it is one of them.
-fn add_edges_along(edges: &mut IndexSet<(u32, u32)>, row: &[u32]) -> Result<(), Memory>
+fn add_edges_along(edges: &mut Edges, row: &[u32]) -> Result<(), Memory>
     ensures { OnOk result (edges_in edges.new ≡ fold with_edge (edges_in edges.old) (filter is_proper (edges_along row.now))) }
 {
     let [first, others @ ..] = row else {
@@ -60,7 +41,7 @@ fn add_edges_along(edges: &mut IndexSet<(u32, u32)>, row: &[u32]) -> Result<(), 
     let mut from = *first;
     for to in others {
         if from != *to {
-            add_edge(edges, from, *to)?;
+            edges.add(from, *to)?;
         }
         from = *to;
     }
@@ -69,11 +50,7 @@ fn add_edges_along(edges: &mut IndexSet<(u32, u32)>, row: &[u32]) -> Result<(), 
 
 /// Puts the edges around a face behind the others, each unless it is one of them, and the number of
 /// each behind other numbers.
-fn add_edges_around(
-    edges: &mut IndexSet<(u32, u32)>,
-    numbers: &mut Vec<u32>,
-    face: &[u32],
-) -> Result<(), Memory>
+fn add_edges_around(edges: &mut Edges, numbers: &mut Vec<u32>, face: &[u32]) -> Result<(), Memory>
     requires { length (edges_in edges.old) + length face.now < 2 ^ 32 }
     ensures edges { OnOk result (edges_in edges.new ≡ fold with_edge (edges_in edges.old) (edges_around face.now)) }
     ensures numbers { OnOk result (numbers.new.items ≡ numbers.old.items ++ numbers_among (edges_in edges.old) (edges_around face.now)) }
@@ -83,10 +60,10 @@ fn add_edges_around(
     };
     let mut from = *first;
     for to in others {
-        numbers.push(add_edge(edges, from, *to)? as u32)?;
+        numbers.push(edges.add(from, *to)? as u32)?;
         from = *to;
     }
-    numbers.push(add_edge(edges, from, *first)? as u32)?;
+    numbers.push(edges.add(from, *first)? as u32)?;
     Ok(())
 }
 
@@ -99,7 +76,7 @@ impl Parts {
         faces.push(0)?;
         Ok(Parts {
             points: Vec::new(alloc),
-            edges: IndexSet::new(alloc),
+            edges: Edges::new(alloc),
             corner_points: Vec::new(alloc),
             corner_edges: Vec::new(alloc),
             faces,

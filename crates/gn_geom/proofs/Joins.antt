@@ -1,19 +1,36 @@
 -- Edges that are compared with those around a face, one after another.
-use Rattle.std.proofs.Common.{◌≡◌, ◌≢◌, ℕ, ◌+◌, ◌<◌, true, eqb, List, ◌∷◌, length, map, drop, take, get_or, sym, ap, ◌∙◌, arith}
-use Rattle.std.specs.Bool.{Decides}
-use Rattle.std.specs.List.{AllPairs, list_any}
+use Rattle.std.proofs.Common.{◌≡◌, ◌≢◌, ℕ, ◌+◌, ◌<◌, true, false, List, [], ◌∷◌, ◌++◌, length, map, drop, take, get_or, refl, sym, ap, ◌∙◌, subst, arith}
+use Rattle.std.specs.Cmp.{IsEquivalence}
+use Rattle.std.specs.List.{AllPairs, IsDistinct, list_any}
 use Rattle.std.specs.Prelude.{◌↔◌}
-use Rattle.std.proofs.lemmas.Bool.Decides.{Decides-eqb, Decides-and}
-use Rattle.std.proofs.lemmas.List.{drop_more, get_or-take, get_or_default, length-take}
+use Rattle.std.proofs.lemmas.Bool.Decides.{nat_tests}
+use Rattle.std.proofs.lemmas.Map.Keys.{IsDistinct-push}
+use Rattle.std.proofs.lemmas.List.{drop_more, take_more, get_or-take, get_or_default, length-take}
 use Rattle.std.proofs.lemmas.List.Folds.{Any-from_list_any}
 use Rattle.gn_plain.specs.Edges.{edge_between, edges_along}
 use Rattle.gn_plain.specs.Topology.{edge_of, edge_at}
-use Rattle.gn_geom.proofs.EdgeSets.{is_pair}
+use Rattle.gn_edges.specs.Kept.{is_pair, with_pair}
+use Rattle.gn_edges.proofs.Walks.{pair_decides}
 
-pub pair_decides : (a b : ℕ × ℕ) → Decides (is_pair a b) (a ≡ b)
-pair_decides a b =
-    let both = Decides-and (eqb a.0 b.0) (eqb a.1 b.1) (Decides-eqb a.0 b.0) (Decides-eqb a.1 b.1) in
-    (λ e. let p = both.0 e in λ i. (p.0 i, p.1 i), λ e. both.1 (ap (λ p. p.0) e, ap (λ p. p.1) e))
+pair_equiv : IsEquivalence is_pair
+pair_equiv = record {
+  refl = λ x. (pair_decides x x).1 refl;
+  symm = λ x y. grind (arith, nat_tests);
+  congr = λ x y z e. ap (λ w. is_pair w z) ((pair_decides x y).0 e);
+}
+
+pub distinct_none : IsDistinct is_pair []
+unfolding IsDistinct
+distinct_none = tt
+
+-- one edge more that is none of those before it
+pub distinct_more : (edges seen new : List (ℕ × ℕ)) (i : ℕ) → i < length edges → seen ≡ take i edges → IsDistinct is_pair seen
+    → list_any (is_pair (get_or edges i (0, 0))) seen ≡ false → new ≡ with_pair seen (get_or edges i (0, 0)) → (new ≡ take (i + 1) edges) × IsDistinct is_pair new
+distinct_more edges seen new i here same distinct apart with =
+    let pushed : new ≡ seen ++ get_or edges i (0, 0) ∷ [] = with ∙ rw apart refl in (
+      pushed ∙ ap (λ s. s ++ get_or edges i (0, 0) ∷ []) same ∙ sym (take_more edges i (0, 0) here),
+      subst (λ (s : List (ℕ × ℕ)). IsDistinct is_pair s) (sym pushed) (IsDistinct-push pair_equiv seen (get_or edges i (0, 0)) distinct apart),
+    )
 
 pub edge_of_same : (a b : ℕ × ℕ) → edge_of a ≡ edge_of b → a ≡ b
 edge_of_same a b e = λ i. (ap (λ x. x.lesser) e i, ap (λ x. x.greater) e i)

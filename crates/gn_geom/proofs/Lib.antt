@@ -1,4 +1,3 @@
-pub mod EdgeSets
 pub mod Marks
 pub mod Joins
 pub mod FaceLemmas

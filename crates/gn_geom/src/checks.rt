@@ -4,9 +4,8 @@ ghost use Rattle.gn_plain.specs.Edges.{edges_around};
 ghost use Rattle.gn_plain.specs.Topology.{AllDiffer, AreOffsets, IsNumbered, IsValid, edge_at};
 ghost use Rattle.gn_geom.specs.Faces.{AreFaces, IsFace};
 
-use crate::edges::edge_between;
+use gn_edges::{Edges, edge_between};
 use gn_memory::Memory;
-use indexmap::IndexSet;
 use std::alloc::Global;
 
 /// Whether each edge has its lesser vertex first.
@@ -34,7 +33,7 @@ pub(crate) fn are_below(numbers: &[u32], count: usize) -> bool
 pub(crate) fn edges_differ(alloc: Global, edges: &[(u32, u32)]) -> Result<bool, Memory>
     ensures { IfOk result (λ b. IsTrue b ↔ AllDiffer edges.now) }
 {
-    let mut seen = IndexSet::with_capacity(alloc, edges.len())?;
+    let mut seen = Edges::new(alloc);
     for edge in edges {
         if !seen.insert(*edge)? {
             return Ok(false);

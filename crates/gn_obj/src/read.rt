@@ -12,13 +12,13 @@ use std::alloc::Global;
 
 /// The mesh of parts that are those of one.
 fn mesh_of_parts(alloc: Global, parts: Parts) -> Result<Mesh, Memory>
-    requires valid { IsValid (topology parts.points.items parts.edges.keys parts.faces.items parts.corner_points.items parts.corner_edges.items) }
-    requires numbered { IsNumbered (topology parts.points.items parts.edges.keys parts.faces.items parts.corner_points.items parts.corner_edges.items) }
+    requires valid { IsValid (topology parts.points.items parts.edges parts.faces.items parts.corner_points.items parts.corner_edges.items) }
+    requires numbered { IsNumbered (topology parts.points.items parts.edges parts.faces.items parts.corner_points.items parts.corner_edges.items) }
     ensures mesh { IfOk result (λ m. plain_of m ≡ mesh_of parts.points.items
-        (topology parts.points.items parts.edges.keys parts.faces.items parts.corner_points.items parts.corner_edges.items)) }
+        (topology parts.points.items parts.edges parts.faces.items parts.corner_points.items parts.corner_edges.items)) }
     ensures sole { IfOk result IsSole }
 {
-    let edges = Vec::from_slice(alloc, parts.edges.as_slice())?;
+    let edges = parts.edges.into_vec();
     Mesh::from_valid_parts(
         alloc,
         parts.points,

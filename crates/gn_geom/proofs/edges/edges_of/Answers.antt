@@ -8,4 +8,4 @@ use Rattle.gn_geom.proofs.edges.edges_of.Goals as goal
 pub loop-face-init : goal.loop-face-init
 loop-face-init c =
     let all = flat_map (λ f. edges_around f.items) c.args.face_points.now in
-    ap (λ keys. fold with_edge (map edge_of keys) all) c.in_ok-edges.ensures.empty ∙ first_seen-fold all
+    ap (λ pairs. fold with_edge (map edge_of pairs) all) c.new-edges.ensures ∙ first_seen-fold all

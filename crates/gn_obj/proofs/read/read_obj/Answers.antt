@@ -5,11 +5,11 @@ use Rattle.gn_obj.proofs.read.read_obj.Goals as goal
 
 pub mesh_of_parts-requires-clause-valid : goal.mesh_of_parts-requires-clause-valid
 mesh_of_parts-requires-clause-valid c =
-    (spelled c.args.bytes.now (growing c.in-Ok-read.parts) c.in-Ok-read.parts.edges.keys (rw c.in-Ok-read.is at c.in-Ok.ensures) refl).0
+    (spelled c.args.bytes.now (growing c.in-Ok-read.parts) c.in-Ok-read.parts.edges (rw c.in-Ok-read.is at c.in-Ok.ensures) refl).0
 
 pub mesh_of_parts-requires-clause-numbered : goal.mesh_of_parts-requires-clause-numbered
 mesh_of_parts-requires-clause-numbered c =
-    (spelled c.args.bytes.now (growing c.in-Ok-read.parts) c.in-Ok-read.parts.edges.keys (rw c.in-Ok-read.is at c.in-Ok.ensures) refl).1
+    (spelled c.args.bytes.now (growing c.in-Ok-read.parts) c.in-Ok-read.parts.edges (rw c.in-Ok-read.is at c.in-Ok.ensures) refl).1
 
 pub returns-in-Err-clause-fault : goal.returns-in-Err-clause-fault
 returns-in-Err-clause-fault c =
@@ -17,5 +17,5 @@ returns-in-Err-clause-fault c =
 
 pub returns-in-Ok-mesh_of_parts-clause-mesh : goal.returns-in-Ok-mesh_of_parts-clause-mesh
 returns-in-Ok-mesh_of_parts-clause-mesh c =
-    let s = spelled c.args.bytes.now (growing c.in-Ok-read.parts) c.in-Ok-read.parts.edges.keys (rw c.in-Ok-read.is at c.in-Ok.ensures) refl in
+    let s = spelled c.args.bytes.now (growing c.in-Ok-read.parts) c.in-Ok-read.parts.edges (rw c.in-Ok-read.is at c.in-Ok.ensures) refl in
     s.2 ∙ ap (λ m. Ok m) (sym c.in-Ok-mesh_of_parts.ensures.mesh)
