@@ -38,10 +38,10 @@ module _ {S : Type 0} (sources : Sources S) where
 
   abbrev pub library : Rows Kind (Carried S)
   library = record {
-      role = λ kind. role_of kind.name;
-      file = λ kind. file_in kind.settings;
-      choice = λ kind condition. choice_by sources kind.settings condition;
-      row = row;
-      turns = λ kind count. turns sources count;
-      convert = convert;
-    }
+    role = λ kind. role_of kind.name;
+    file = λ kind. file_in kind.settings;
+    choice = λ kind condition. choice_by sources kind.settings condition;
+    row = row;
+    turns = λ kind count. turns sources count;
+    convert = convert;
+  }
