@@ -14,11 +14,12 @@ use Rattle.gn_value.specs.declared.op.CompareKind.TheVariants.{Int as Integers}
 use Rattle.gn_value.specs.declared.op.CompareOp.TheVariants.{Less}
 use Rattle.gn_value.specs.declared.op.MathOp.TheVariants.{Add}
 use Rattle.gn_plain.specs.Columns.{named, fixed_numbers, Column}
+use Rattle.gn_plain.specs.Geometry as geometry
 use Rattle.gn_plain.specs.Geometry.{Geometry, of_shape, and_placed, none_placed, with_columns, no_cloud, no_instances}
-use Rattle.gn_plain.specs.Contexts.{Input, position, index, id, normal, column, exists, edge_index_1, edge_index_2, edge_position_2, vertex_edges, vertex_faces, Context, nowhere, context, input_at, length_of}
+use Rattle.gn_plain.specs.Contexts.{Input, position, index, id, normal, column, exists, edge_index_1, edge_index_2, edge_position_1, edge_position_2, vertex_edges, vertex_faces, Context, nowhere, context, input_at, length_of, normal_of}
 use Rattle.gn_plain.specs.Fields.{leading, trailing, total, accumulate, at_index, on_domain, Expr, constant, input, apply, elsewhere, sampled, none, and_one, Sources, at, varies, kind_of_field}
 use Rattle.gn_plain.specs.Subtrees.{different, count_different}
-use Rattle.gn_plain.proofs.Samples.{units, at_units, triangle, two_triangles}
+use Rattle.gn_plain.proofs.Samples.{units, at_units, corner, triangle, two_triangles}
 
 -- ---- inputs
 
@@ -54,13 +55,21 @@ columns_by_name : read Edge (column (named (codes "id")) Truth) 1 ∷ read Point
 unfolding converted
 columns_by_name = refl
 
+abbrev around_three : List geometry.Corner
+around_three = corner 0 0 ∷ corner 1 1 ∷ corner 2 2 ∷ []
+
 normals : read Face normal 0 ∷ read Point normal 2 ∷ read Cloud normal 0 ∷ [] ≡ vector (at_units 0 0 1) ∷ vector (at_units 0 0 1) ∷ zero_of Vector ∷ []
 unfolding exact_product exact_length isqrt_of greatest
 normals = refl
 
+-- faces in the two other planes
+across_a_face : normal_of (at_units 0 0 0 ∷ at_units 0 1 0 ∷ at_units 0 0 1 ∷ []) around_three ∷ normal_of (at_units 0 0 0 ∷ at_units 0 0 1 ∷ at_units 1 0 0 ∷ []) around_three ∷ [] ≡ at_units 1 0 0 ∷ at_units 0 1 0 ∷ []
+unfolding exact_product exact_length isqrt_of greatest
+across_a_face = refl
+
 -- on a face the means of 0, 1, 0 and of 1, 2, 2
-ends_of_edges : read Edge edge_index_1 2 ∷ read Edge edge_index_2 2 ∷ read Face edge_index_1 0 ∷ read Face edge_index_2 0 ∷ read Edge edge_position_2 0 ∷ read Cloud edge_index_2 0 ∷ []
-    ≡ int (pos 0) ∷ int (pos 2) ∷ int (pos 0) ∷ int (pos 1) ∷ vector (at_units 1 0 0) ∷ int (pos 0) ∷ []
+ends_of_edges : read Edge edge_index_1 2 ∷ read Edge edge_index_2 2 ∷ read Face edge_index_1 0 ∷ read Face edge_index_2 0 ∷ read Edge edge_position_1 1 ∷ read Edge edge_position_2 1 ∷ read Cloud edge_index_2 0 ∷ []
+    ≡ int (pos 0) ∷ int (pos 2) ∷ int (pos 0) ∷ int (pos 1) ∷ vector (at_units 1 0 0) ∷ vector (at_units 0 1 0) ∷ int (pos 0) ∷ []
 ends_of_edges = refl
 
 abbrev on_two : Place → Context
