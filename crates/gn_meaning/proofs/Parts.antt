@@ -32,25 +32,25 @@ use Rattle.gn_meaning.proofs.Order.{edge_of_link}
 -- ---- what groups and zones declare
 
 -- a node's further sockets are its group's, or its zone's items
-further_group : (side : Group → List Socket) (gs : List Group) (set : Settings) (name : Text) (i : ℕ) (g : Group) → group_in set ≡ Some name → first_of (group_names gs) name ≡ Some i → slice_get gs i ≡ Some g → further side gs set ≡ side g
+pub further_group : (side : Group → List Socket) (gs : List Group) (set : Settings) (name : Text) (i : ℕ) (g : Group) → group_in set ≡ Some name → first_of (group_names gs) name ≡ Some i → slice_get gs i ≡ Some g → further side gs set ≡ side g
 further_group side gs set name i g e f h = rw (e, f, h) refl
 
-further_zone : (side : Group → List Socket) (gs : List Group) (set : Settings) → group_in set ≡ None → further side gs set ≡ items_in set
+pub further_zone : (side : Group → List Socket) (gs : List Group) (set : Settings) → group_in set ≡ None → further side gs set ≡ items_in set
 further_zone side gs set e = rw e refl
 
-group_inputs : (gs : List Group) (id kind : Text) (set : Settings) (inputs : List Named) (xs : List Socket) → kind ≡ codes "group" → further (λ g. g.inputs) gs set ≡ xs → inputs_of gs (node id kind set inputs) ≡ map one_of xs
+pub group_inputs : (gs : List Group) (id kind : Text) (set : Settings) (inputs : List Named) (xs : List Socket) → kind ≡ codes "group" → further (λ g. g.inputs) gs set ≡ xs → inputs_of gs (node id kind set inputs) ≡ map one_of xs
 unfolding row_of_kind table values functions elsewhere attributes geometry_kinds instance_kinds groups
 group_inputs gs id kind set inputs xs e f = λ i. map (input_of_row (chosen set)) (inputs_of_kind (e i)) ++ map one_of (f i)
 
-group_outputs : (gs : List Group) (id kind : Text) (set : Settings) (inputs : List Named) (xs : List Socket) → kind ≡ codes "group" → further (λ g. g.outputs) gs set ≡ xs → outputs_of gs (node id kind set inputs) ≡ map one_of xs
+pub group_outputs : (gs : List Group) (id kind : Text) (set : Settings) (inputs : List Named) (xs : List Socket) → kind ≡ codes "group" → further (λ g. g.outputs) gs set ≡ xs → outputs_of gs (node id kind set inputs) ≡ map one_of xs
 unfolding row_of_kind table values functions elsewhere attributes geometry_kinds instance_kinds groups
 group_outputs gs id kind set inputs xs e f = λ i. map (output_of_row (chosen set)) (outputs_of_kind (e i)) ++ map one_of (f i)
 
-zone_inputs : (gs : List Group) (id kind : Text) (set : Settings) (inputs : List Named) (xs : List Socket) → kind ≡ codes "repeat" → further (λ g. g.inputs) gs set ≡ xs → inputs_of gs (node id kind set inputs) ≡ one (codes "iterations") Int ∷ map one_of xs
+pub zone_inputs : (gs : List Group) (id kind : Text) (set : Settings) (inputs : List Named) (xs : List Socket) → kind ≡ codes "repeat" → further (λ g. g.inputs) gs set ≡ xs → inputs_of gs (node id kind set inputs) ≡ one (codes "iterations") Int ∷ map one_of xs
 unfolding row_of_kind table values functions elsewhere attributes geometry_kinds instance_kinds groups
 zone_inputs gs id kind set inputs xs e f = λ i. map (input_of_row (chosen set)) (inputs_of_kind (e i)) ++ map one_of (f i)
 
-zone_outputs : (gs : List Group) (id kind : Text) (set : Settings) (inputs : List Named) (xs : List Socket) → kind ≡ codes "repeat" → further (λ g. g.outputs) gs set ≡ xs → outputs_of gs (node id kind set inputs) ≡ map one_of xs
+pub zone_outputs : (gs : List Group) (id kind : Text) (set : Settings) (inputs : List Named) (xs : List Socket) → kind ≡ codes "repeat" → further (λ g. g.outputs) gs set ≡ xs → outputs_of gs (node id kind set inputs) ≡ map one_of xs
 unfolding row_of_kind table values functions elsewhere attributes geometry_kinds instance_kinds groups
 zone_outputs gs id kind set inputs xs e f = λ i. map (output_of_row (chosen set)) (outputs_of_kind (e i)) ++ map one_of (f i)
 
@@ -61,14 +61,14 @@ no_group kind (and_setting (of_group name) rest) e h = let bad : codes "repeat" 
 no_group kind (and_setting x rest) e h = no_group kind rest e h
 no_group kind (and_zone items nodes output rest) e h = no_group kind rest e h.2
 
-singles : (xs : List Socket) → AllSingle (map one_of xs)
+pub singles : (xs : List Socket) → AllSingle (map one_of xs)
 singles [] = tt
 singles (x ∷ xs) = (refl, singles xs)
 
 -- ---- the body of a node
 
 -- a group above, or the body of a smaller zone; with what the settings name and how large they are
-data Inner (t : Tree) (s : Scope) (kind : Text) (named : Option Text) (items : List Socket) (size : ℕ) : Body → Type 0 where
+pub data Inner (t : Tree) (s : Scope) (kind : Text) (named : Option Text) (items : List Socket) (size : ℕ) : Body → Type 0 where
   group_inner : (name : Text) (i : ℕ) (g : Group) → named ≡ Some name → first_of (group_names s.groups) name ≡ Some i → slice_get s.groups i ≡ Some g → i < s.above → kind ≡ codes "group" → Inner t s kind named items size (group_body s.groups i g)
   zone_inner : (xs : List Socket) (nodes : Nodes) (output : List Named) → named ≡ None → items ≡ xs → nodes_size nodes < size → kind ≡ codes "repeat" → NodesHaveForm nodes
       → Reached t (the_nodes (zone_scope s xs nodes)) → Reached t (given_out_thing (zone_scope s xs nodes) xs output) → Inner t s kind named items size (zone_body s kind xs nodes output)
@@ -94,7 +94,7 @@ module _ (t : Tree) (keeps : KeepsRules t) (s : Scope) (kind : Text) where
       let lower : number.0 < s.above = less number.0 s.above (sym (ap (λ o. option_map_or (λ i. nat_lt i s.above) o false) number.1) ∙ above) in
       subst (λ x. Inner t s kind (group_in set) (items_in set) (settings_size set) x) group.2 (group_inner name number.0 group.0 at number.1 group.1 lower is)
 
-  inner_of : (set : Settings) (b : Body) → SettingsHaveForm kind set → Under set → body_in s kind set ≡ Some b → Inner t s kind (group_in set) (items_in set) (settings_size set) b
+  pub inner_of : (set : Settings) (b : Body) → SettingsHaveForm kind set → Under set → body_in s kind set ≡ Some b → Inner t s kind (group_in set) (items_in set) (settings_size set) b
   inner_of no_settings b form under e = cc
   inner_of (and_setting (of_group name) rest) b form under e = inner_of_group (and_setting (of_group name) rest) name b refl form.0 (under (key (codes "group")) (a_group_name s name) refl) e
   inner_of (and_setting x rest) b form under e = inner_of rest b form under e
@@ -120,7 +120,7 @@ module _ (t : Tree) where
   nodes_reached : (s : Scope) → Reached t (the_nodes s) → (n : ℕ) (x : Node) → node_at s.nodes n ≡ Some x → Reached t (a_node_thing s n x)
   nodes_reached s there n x e = subst (λ i. Reached t (a_node_thing s i x)) (from_zero n) (part (index (0 + n)) (a_node_thing s (0 + n) x) there (node_part s 0 n s.nodes x e))
 
-  node_form : (ns : Nodes) (n : ℕ) (x : Node) → NodesHaveForm ns → node_at ns n ≡ Some x → NodeHasForm x
+  pub node_form : (ns : Nodes) (n : ℕ) (x : Node) → NodesHaveForm ns → node_at ns n ≡ Some x → NodeHasForm x
   node_form no_nodes n x form e = cc
   node_form (and_node y ns) zero x form e = subst NodeHasForm (some_same e) form.0
   node_form (and_node y ns) (suc n) x form e = node_form ns n x form.1 e
@@ -130,7 +130,7 @@ module _ (t : Tree) where
   group_form (h ∷ gs) zero g form e = subst (λ x. NodesHaveForm x.nodes) (some_same e) form.0
   group_form (h ∷ gs) (suc i) g form e = group_form gs i g form.1 e
 
-  holds_tree : HasForm t → Holds (tree_body t)
+  pub holds_tree : HasForm t → Holds (tree_body t)
   holds_tree form = record {
     groups = refl;
     nodes = λ n x e. subst (λ i. Reached t (a_node_thing (tree_scope t) i x)) (from_zero n)
@@ -163,7 +163,7 @@ module _ (t : Tree) where
           out = inputs_reached t (group_scope t.groups i g) (map one_of g.outputs) g.output (part (key (codes "output")) (given_out_thing (group_scope t.groups i g) g.outputs g.output) there refl);
         }
 
-    holds_inner : (b : Body) → Holds b → {kind : Text} {named : Option Text} {items : List Socket} {size : ℕ} {inner : Body} → Inner t b.scope kind named items size inner → Holds inner
+    pub holds_inner : (b : Body) → Holds b → {kind : Text} {named : Option Text} {items : List Socket} {size : ℕ} {inner : Body} → Inner t b.scope kind named items size inner → Holds inner
     holds_inner b holds (group_inner name i g named at there above is) =
         subst (λ gs. Holds (group_body gs i g)) (sym holds.groups) (holds_group i g (ap (λ gs. slice_get gs i) (sym holds.groups) ∙ there))
     holds_inner b holds {kind} (zone_inner xs nodes output named same smaller is has_form nodes_there output_there) = record {
