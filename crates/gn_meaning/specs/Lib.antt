@@ -6,3 +6,4 @@ pub mod There
 pub mod Origins
 pub mod Denotation
 pub mod Demand
+pub mod Claims
