@@ -30,7 +30,7 @@ pub data Grounded (t : Tree) : Site → Type 0 where
   of_tree_input : (i : ℕ) → i < length tree_entries → Grounded t (at_input the_tree i)
   of_node : {way : Way} {n s : ℕ} (run : Run) → part_at t way n ≡ Some (a_node run) → IsThere t (at_output way n s) → ((r : Read) → Has run.reads r → Grounded t r.from) → Grounded t (at_output way n s)
   of_group : {way : Way} {n s : ℕ} (b : Body) (reads : List Read) → part_at t way n ≡ Some (a_group b reads) → Grounded t (out_of t (into way (plain_step n)) s).from → Grounded t (at_output way n s)
-  of_repeat : {way : Way} {n s : ℕ} (run : Run) (b : Body) → part_at t way n ≡ Some (a_repeat run b) → ((r : Read) → Has run.reads r → Grounded t r.from) → ((k : ℕ) → Grounded t (at_item way n k s)) → Grounded t (at_output way n s)
+  of_repeat : {way : Way} {n s : ℕ} (run : Run) (b : Body) → part_at t way n ≡ Some (a_repeat run b) → IsThere t (at_output way n s) → ((r : Read) → Has run.reads r → Grounded t r.from) → ((k : ℕ) → Grounded t (at_item way n k s)) → Grounded t (at_output way n s)
   of_group_input : {way : Way} {n i : ℕ} (b : Body) (reads : List Read) → part_at t way n ≡ Some (a_group b reads) → Grounded t (read_at reads i).from → Grounded t (at_input (into way (plain_step n)) i)
   of_turn_number : {way : Way} {n k : ℕ} (run : Run) (b : Body) → part_at t way n ≡ Some (a_repeat run b) → Grounded t (at_input (into way (turn_step n k)) 0)
   of_turn_item : {way : Way} {n k i : ℕ} (run : Run) (b : Body) → part_at t way n ≡ Some (a_repeat run b) → Grounded t (at_item way n k i) → Grounded t (at_input (into way (turn_step n k)) (suc i))
@@ -115,7 +115,7 @@ module _ (t : Tree) where
             (out_grounded (into way (plain_step n)) inner leads_in entries_there (below (plain_step n) inner leads_in opens.2.smaller entries_there) s (as_many n s x opens.0 inner there opens.1 opens.2.outs h))
         one_node n s x there h (a_repeat run inner) e grounded =
             let opens : (y : Node) × (node_at b.scope.nodes n ≡ Some y) × Opens t b y inner run.reads × (length inner.scope.entries ≡ suc (length inner.sockets)) = repeat_opens t keeps form way b list.0 n list.1 run inner e in
-            of_repeat run inner e grounded
+            of_repeat run inner e (b, leads, x, there, h) grounded
             (λ k. items_grounded n run inner e grounded (λ j entries_there. below (turn_step n j) inner (into_turn n j run leads e) opens.2.smaller entries_there) k s (as_many n s x opens.0 inner there opens.1 opens.2.outs h))
 
         -- nodes, from those that lead to no other on

@@ -26,7 +26,7 @@ module _ (t : Tree) where
   has_origin (of_constant c) = (plain_read (at_constant c), (1, refl))
   has_origin (of_tree_input i h) = (plain_read (at_input the_tree i), (1, refl))
   has_origin (of_node {way} {n} {s} run e there reads) = (plain_read (at_output way n s), (1, ap (output_origin t (origin_within t 0) way n s) e))
-  has_origin (of_repeat {way} {n} {s} run b e reads items) = (plain_read (at_output way n s), (1, ap (output_origin t (origin_within t 0) way n s) e))
+  has_origin (of_repeat {way} {n} {s} run b e there reads items) = (plain_read (at_output way n s), (1, ap (output_origin t (origin_within t 0) way n s) e))
   has_origin (of_group {way} {n} {s} b reads e out) =
       let there : ReadHas (out_of t (into way (plain_step n)) s) = read_on (out_of t (into way (plain_step n)) s) (has_origin out) in
       (there.1, (suc there.0, ap (output_origin t (origin_within t there.0) way n s) e ∙ there.2))
