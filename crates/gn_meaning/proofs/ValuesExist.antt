@@ -13,7 +13,7 @@ use Rattle.gn_meaning.specs.Forms.{HasForm}
 use Rattle.gn_meaning.specs.There.{IsThere}
 use Rattle.gn_meaning.specs.Denotation.{Given, read_value, read_values, choice_by, choice_in, done_for, run_done, run_output, output_value, input_value, first_item, value_within, StandsAt, Ends}
 use Rattle.gn_meaning.specs.Given.{GivesAll}
-use Rattle.gn_meaning.proofs.Options.{Kept, then_some}
+use Rattle.gn_meaning.proofs.Options.{Kept, some_same}
 use Rattle.gn_meaning.proofs.Lists.{has_at, get_below}
 use Rattle.gn_meaning.proofs.Values.{read_kept, reads_kept, choice_kept, done_kept, output_kept, value_stays}
 use Rattle.gn_meaning.proofs.Grounded.{Grounded, of_constant, of_tree_input, of_node, of_group, of_repeat, of_group_input, of_turn_number, of_turn_item, of_first_item, of_later_item, all_grounded}
@@ -64,7 +64,7 @@ module _ {V : Type 0} (rows : Rows Kind V) (given : Given V) (t : Tree) where
   abbrev Found : ℕ → Site → Option V
   Found k = value_within rows given t k
 
-  abbrev HasValue : Site → Type 0
+  abbrev pub HasValue : Site → Type 0
   HasValue site = (v : V) × StandsAt rows given t site v
 
   -- what is found along some steps is found along more
@@ -122,7 +122,7 @@ module _ {V : Type 0} (rows : Rows Kind V) (given : Given V) (t : Tree) where
     run_at : (way : Way) (n s : ℕ) (p : Part) (run : Run) → part_at t way n ≡ Some p → run_in p ≡ Some run → run_of t (at_output way n s) ≡ Some run
     run_at way n s p run e f = ap (option_and_then run_in) e ∙ f
 
-    has_value : {site : Site} → Grounded t site → HasValue site
+    pub has_value : {site : Site} → Grounded t site → HasValue site
     has_value (of_constant c) = (given.constant c, (1, refl))
     has_value (of_tree_input i h) =
         let count : length tree_entries ≤ length given.inputs = all.inputs in
@@ -156,3 +156,20 @@ module _ {V : Type 0} (rows : Rows Kind V) (given : Given V) (t : Tree) where
     has_value (of_later_item {way} {n} {k} {i} out) =
         let there : ReadHasValue (out_of t (into way (turn_step n k)) i) = read_on (out_of t (into way (turn_step n k)) i) (has_value out) in
         (there.1, (suc there.0, there.2))
+
+    -- the run that a site's value comes from ends
+    pub run_of_site_ends : (site : Site) (run : Run) → Grounded t site → run_of t site ≡ Some run → (done : Done V) × Ends rows given t run done
+    run_of_site_ends site run (of_constant c) f = cc
+    run_of_site_ends site run (of_tree_input i h) f = cc
+    run_of_site_ends site run (of_node {way} {n} {s} own e there reads) f =
+        let same : own ≡ run = some_same (sym (ap (option_and_then run_in) e) ∙ f) in
+        subst (λ r. (done : Done V) × Ends rows given t r done) same (run_ends own (λ switch. all.indices way n s own there (run_at way n s (a_node own) own e refl) switch) (λ r h. has_value (reads r h)))
+    run_of_site_ends site run (of_group {way} {n} {s} b reads e out) f = let bad : None ≡ Some run = sym (ap (option_and_then run_in) e) ∙ f in cc
+    run_of_site_ends site run (of_repeat {way} {n} {s} own b e there reads items) f =
+        let same : own ≡ run = some_same (sym (ap (option_and_then run_in) e) ∙ f) in
+        subst (λ r. (done : Done V) × Ends rows given t r done) same (run_ends own (λ switch. all.indices way n s own there (run_at way n s (a_repeat own b) own e refl) switch) (λ r h. has_value (reads r h)))
+    run_of_site_ends site run (of_group_input b reads e read) f = cc
+    run_of_site_ends site run (of_turn_number own b e) f = cc
+    run_of_site_ends site run (of_turn_item own b e item) f = cc
+    run_of_site_ends site run (of_first_item own b e read) f = cc
+    run_of_site_ends site run (of_later_item out) f = cc

@@ -1,5 +1,5 @@
 -- What holds of the meaning of every tree.
-use Rattle.std.specs.Prelude.{◌≡◌, ℕ, Some}
+use Rattle.std.specs.Prelude.{◌≡◌, ℕ, List, [], ◌∷◌, Some}
 use Rattle.gn_tree.specs.NodeKinds.{Kind}
 use Rattle.gn_tree.specs.Trees.{Tree, Link}
 use Rattle.gn_rules.specs.declared.shape.Shape.{Shape}
@@ -12,6 +12,8 @@ use Rattle.gn_meaning.specs.Forms.{HasForm}
 use Rattle.gn_meaning.specs.There.{IsThere}
 use Rattle.gn_meaning.specs.Origins.{ComesFrom}
 use Rattle.gn_meaning.specs.Denotation.{Given, StandsAt, Chooses, Ends}
+use Rattle.gn_meaning.specs.Demand.{Wanted, output_read}
+use Rattle.gn_meaning.specs.Given.{GivesAll}
 
 -- a link for which the rules find what it carries leads from a site
 abbrev pub LinksLead : Type 0
@@ -42,3 +44,13 @@ module _ {V : Type 0} (rows : Rows Kind V) where
   ValuesComeFromOrigins = (given : Given V) (t : Tree) (site : Site) (origin : Read) → ComesFrom t site origin →
       ((v : V) → StandsAt rows given t origin.from v → StandsAt rows given t site (converted rows v origin.through))
       × ((w : V) → StandsAt rows given t site w → (v : V) × StandsAt rows given t origin.from v × (converted rows v origin.through ≡ w))
+
+  abbrev pub HasOneValue : Given V → Tree → Site → Type 0
+  HasOneValue given t site = (v : V) × StandsAt rows given t site v × ((w : V) → StandsAt rows given t site w → w ≡ v)
+
+  -- each wanted site of a tree that keeps the rules is there, each site that is there has one value, and the run that it comes from ends
+  abbrev pub WantedSitesHaveOneValue : Type 0
+  WantedSitesHaveOneValue = (given : Given V) (t : Tree) → HasForm t → KeepsRules t → GivesAll rows given t →
+      ((site : Site) → Wanted rows given t (output_read t ∷ []) site → IsThere t site)
+      × ((site : Site) → IsThere t site → HasOneValue given t site)
+      × ((site : Site) (run : Run) → IsThere t site → run_of t site ≡ Some run → (done : Done V) × Ends rows given t run done)

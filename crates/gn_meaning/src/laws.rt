@@ -1,6 +1,6 @@
 ghost use Rattle.gn_tree.specs.NodeKinds.{Kind};
 ghost use Rattle.gn_node_set.specs.Meanings.{Rows};
-ghost use Rattle.gn_meaning.specs.Claims.{LinksLead, PathsNameOneRun, SitesHaveOneOrigin, MeaningsAreOne, ValuesComeFromOrigins};
+ghost use Rattle.gn_meaning.specs.Claims.{LinksLead, PathsNameOneRun, SitesHaveOneOrigin, MeaningsAreOne, ValuesComeFromOrigins, WantedSitesHaveOneValue};
 
 /// What the kinds of nodes do, for contracts alone: the type of values, and the rows over it. A
 /// library of kinds gives these beside its code.
@@ -36,4 +36,11 @@ pub fn meanings_are_one<K: KindRows>()
 /// stands, the other does.
 pub fn values_come_from_origins<K: KindRows>()
     ensures { ValuesComeFromOrigins K.rows }
+{}
+
+/// Every wanted site of a tree that keeps the rules has exactly one value, where the rows give an
+/// output for each that a node declares: it is there, and on each site that is there stands one
+/// value, and the run that it comes from ends.
+pub fn wanted_sites_have_one_value<K: KindRows>()
+    ensures { WantedSitesHaveOneValue K.rows }
 {}
