@@ -1,5 +1,5 @@
 -- Small trees, and what stands in them, by computation.
-use Rattle.std.proofs.Common.{◌≡◌, ◌⊎◌, inl, inr, ℕ, zero, suc, ◌*◌, ◌^◌, List, [], ◌∷◌, length, Option, Some, None, ℤ, pos, codes, true, false, refl, sym, ◌∙◌, ap, subst}
+use Rattle.std.proofs.Common.{◌≡◌, inl, inr, ℕ, zero, suc, ◌*◌, ◌^◌, List, [], ◌∷◌, length, Option, Some, None, ℤ, pos, codes, true, refl, sym, ◌∙◌, subst}
 use Rattle.std.specs.Prelude.{Bool, ◌+ℤ◌, ◌*ℤ◌, ◌==◌, bytes_eq, if◌then◌else◌}
 use Rattle.std.specs.Option.{option_map_or}
 use Rattle.gn_value.specs.declared.value.Value.{Value}
@@ -8,13 +8,13 @@ use Rattle.gn_value.specs.declared.value.ValueKind.{ValueKind}
 use Rattle.gn_value.specs.declared.value.ValueKind.TheVariants as to
 use Rattle.gn_value.specs.Values.{fx, v3, converted}
 use Rattle.gn_kinds.specs.declared.row.SocketKind.{SocketKind}
-use Rattle.gn_kinds.specs.declared.row.SocketKind.TheVariants.{Int, Fixed, Vector, Geometry}
+use Rattle.gn_kinds.specs.declared.row.SocketKind.TheVariants.{Int, Fixed, Geometry}
 use Rattle.gn_kinds.specs.Row.{Text}
 use Rattle.gn_kinds.specs.Table.{row_of_kind, table, values, functions, elsewhere, attributes, geometry_kinds, instance_kinds, groups}
 use Rattle.gn_tree.specs.NodeKinds.{Kind}
 use Rattle.gn_tree.specs.Trees.{Input, constant, link, links, Link, Named, Socket, Node, node, Settings, no_settings, and_setting, and_zone, Nodes, no_nodes, and_node, Group, Tree, of_group, of_kind, op, value, file}
 use Rattle.gn_node_set.specs.Meanings.{Has, Role, Plain, Switch, File, Zone, Choice, one_case, no_case, first_read, then_read, Answer, Whole, Rows}
-use Rattle.gn_meaning.specs.Sites.{Constant, a_value, a_leaf, no_geometry, Way, the_tree, into, plain_step, turn_step, path_of, Site, at_output, at_input, at_item, at_constant, nowhere, Read, plain_read}
+use Rattle.gn_meaning.specs.Sites.{Constant, a_value, no_geometry, Way, the_tree, into, plain_step, path_of, Site, at_output, at_input, at_item, at_constant, nowhere, Read, plain_read}
 use Rattle.gn_meaning.specs.Bodies.{Body, tree_body}
 use Rattle.gn_meaning.specs.Reads.{Run, Part, a_group, a_repeat, part_at, run_of}
 use Rattle.gn_meaning.specs.Origins.{origin_within}
@@ -248,3 +248,145 @@ links_in_order = refl
 nothing_out : output_read nested ≡ plain_read (at_constant no_geometry)
 unfolding row_of_kind table values functions elsewhere attributes geometry_kinds instance_kinds groups
 nothing_out = refl
+
+-- ---- a switch on a constant chooses the second import
+
+abbrev choosing : Tree
+choosing = tree_of [] (Some (from (codes "s") (codes "output")))
+    (and_node (import_node (codes "a") (codes "a.obj"))
+    (and_node (import_node (codes "b") (codes "b"))
+    (and_node (node (codes "s") (codes "switch") (and_setting (of_kind Geometry) no_settings) (under (codes "false") (from (codes "a") (codes "geometry")) ∷ under (codes "switch") (constant (truth true)) ∷ under (codes "true") (from (codes "b") (codes "geometry")) ∷ []))
+    no_nodes)))
+
+the_second_case : value_of choosing 3 (output_read choosing).from ≡ Some (whole 1)
+unfolding row_of_kind table values functions elsewhere attributes geometry_kinds instance_kinds groups converted toy_rows with_input
+the_second_case = refl
+
+abbrev IsWanted : Tree → Site → Type 0
+IsWanted t site = Wanted toy_rows with_input t (output_read t ∷ []) site
+
+abbrev IsDemanded : Tree → ℕ → Type 0
+IsDemanded t n = Demanded toy_rows with_input t (output_read t ∷ []) (path_of the_tree n)
+
+no_run : Run
+no_run = record { path = []; kind = record { name = []; settings = no_settings; groups = [] }; reads = [] }
+
+abbrev run_at : Tree → ℕ → Run
+run_at t n = option_map_or (λ run. run) (run_of t (at_output the_tree n 0)) no_run
+
+abbrev read_of : ℕ → Read
+read_of n = plain_read (at_output the_tree n 0)
+
+the_switch_is_demanded : IsDemanded choosing 2
+unfolding row_of_kind table values functions elsewhere attributes geometry_kinds instance_kinds groups converted toy_rows with_input no_run
+the_switch_is_demanded = (at_output the_tree 2 0, a_root (read_of 2) (inl refl), run_at choosing 2, refl, refl)
+
+the_second_import_is_demanded : IsDemanded choosing 1
+unfolding row_of_kind table values functions elsewhere attributes geometry_kinds instance_kinds groups converted toy_rows with_input no_run
+the_second_import_is_demanded = (at_output the_tree 1 0, a_case (run_at choosing 2) (one_case 1) (read_of 1) (a_root (read_of 2) (inl refl)) refl (1, refl) (inl refl), run_at choosing 1, refl, refl)
+
+-- ---- the first import isn't demanded: what is wanted is among these
+
+abbrev Fine : Site → Type 0
+Fine (at_output the_tree zero s) = ⊥
+Fine (at_output the_tree (suc n) s) = Unit {0}
+Fine (at_constant c) = Unit {0}
+Fine _ = ⊥
+
+abbrev ReadsFirst : Option Run → Read → Type 0
+ReadsFirst (Some run) r = Has (first_read (role_of run.kind) run.reads) r
+ReadsFirst None r = ⊥
+
+abbrev ReadsThen : Option Run → Read → Type 0
+ReadsThen (Some run) r = (choice : Choice) × Chooses toy_rows with_input choosing run choice × Has (then_read (role_of run.kind) choice run.reads) r
+ReadsThen None r = ⊥
+
+abbrev HasBody : Option Part → Type 0
+HasBody (Some (a_group b reads)) = Unit {0}
+HasBody (Some (a_repeat run b)) = Unit {0}
+HasBody _ = ⊥
+
+fine_first : (way : Way) (n s : ℕ) (r : Read) → Fine (at_output way n s) → ReadsFirst (run_of choosing (at_output way n s)) r → Fine r.from
+unfolding row_of_kind table values functions elsewhere attributes geometry_kinds instance_kinds groups
+fine_first the_tree zero s r f h = absurd f
+fine_first the_tree (suc zero) s r f h = absurd h
+fine_first the_tree (suc (suc zero)) s r f (inl e) = subst (λ x. Fine x.from) (sym e) tt
+fine_first the_tree (suc (suc zero)) s r f (inr h) = absurd h
+fine_first the_tree (suc (suc (suc n))) s r f h = absurd h
+fine_first (into way step) n s r f h = absurd f
+
+chooses_second : (choice : Choice) (k : ℕ) → choice_in toy_rows with_input choosing (value_within toy_rows with_input choosing k) (run_at choosing 2) ≡ Some choice → one_case 1 ≡ choice
+unfolding row_of_kind table values functions elsewhere attributes geometry_kinds instance_kinds groups toy_rows with_input no_run
+chooses_second choice zero e = cc
+chooses_second choice (suc k) e = cc
+
+only_second : (r : Read) → Has (read_of 1 ∷ []) r → Fine r.from
+only_second r (inl e) = subst (λ x. Fine x.from) (sym e) tt
+only_second r (inr h) = absurd h
+
+fine_then : (way : Way) (n s : ℕ) (r : Read) → Fine (at_output way n s) → ReadsThen (run_of choosing (at_output way n s)) r → Fine r.from
+unfolding row_of_kind table values functions elsewhere attributes geometry_kinds instance_kinds groups no_run
+fine_then the_tree zero s r f h = absurd f
+fine_then the_tree (suc zero) s r f (choice, c, h) = absurd h
+fine_then the_tree (suc (suc zero)) s r f (choice, (k, e), h) = only_second r (subst (λ c. Has (then_read Switch c (run_at choosing 2).reads) r) (sym (chooses_second choice k e)) h)
+fine_then the_tree (suc (suc (suc n))) s r f h = absurd h
+fine_then (into way step) n s r f h = absurd f
+
+none_has_body : (way : Way) (n s : ℕ) → Fine (at_output way n s) → ¬ HasBody (part_at choosing way n)
+unfolding row_of_kind table values functions elsewhere attributes geometry_kinds instance_kinds groups
+none_has_body the_tree zero s f h = f
+none_has_body the_tree (suc zero) s f h = h
+none_has_body the_tree (suc (suc zero)) s f h = h
+none_has_body the_tree (suc (suc (suc n))) s f h = h
+none_has_body (into way step) n s f h = f
+
+nothing_else : {site : Site} → IsWanted choosing site → Fine site
+unfolding row_of_kind table values functions elsewhere attributes geometry_kinds instance_kinds groups toy_rows
+nothing_else (a_root r (inl e)) = subst (λ x. Fine x.from) (sym e) tt
+nothing_else (a_root r (inr h)) = absurd h
+nothing_else (an_input {site = at_output way n s} run r w e h) = fine_first way n s r (nothing_else w) (subst (λ o. ReadsFirst o r) (sym e) h)
+nothing_else (an_input {site = at_input way i} run r w e h) = cc
+nothing_else (an_input {site = at_item way n k i} run r w e h) = cc
+nothing_else (an_input {site = at_constant c} run r w e h) = cc
+nothing_else (an_input {site = nowhere} run r w e h) = cc
+nothing_else (a_case {site = at_output way n s} run choice r w e c h) = fine_then way n s r (nothing_else w) (subst (λ o. ReadsThen o r) (sym e) (choice, c, h))
+nothing_else (a_case {site = at_input way i} run choice r w e c h) = cc
+nothing_else (a_case {site = at_item way n k i} run choice r w e c h) = cc
+nothing_else (a_case {site = at_constant d} run choice r w e c h) = cc
+nothing_else (a_case {site = nowhere} run choice r w e c h) = cc
+nothing_else (a_group_output {way} {n} {s} b reads w e) = absurd (none_has_body way n s (nothing_else w) (subst HasBody (sym e) tt))
+nothing_else (a_group_input b reads w e) = absurd (nothing_else w)
+nothing_else (a_result {way} {n} {s} run b v w e g) = absurd (none_has_body way n s (nothing_else w) (subst HasBody (sym e) tt))
+nothing_else (a_first_item run b w e) = absurd (nothing_else w)
+nothing_else (a_later_item w) = absurd (nothing_else w)
+nothing_else (an_item run b w e) = absurd (nothing_else w)
+
+the_first_import_is_not_demanded : ¬ IsDemanded choosing 0
+the_first_import_is_not_demanded (at_output way n s, w, run, e, p) =
+    let same : (way ≡ the_tree) × (n ≡ 0) = path_names_node way the_tree n 0 (sym (path_of_run choosing way n s run e) ∙ p) in
+    nothing_else (subst (IsWanted choosing) (λ i. at_output (same.0 i) (same.1 i) s) w)
+the_first_import_is_not_demanded (at_input way i, w, run, e, p) = cc
+the_first_import_is_not_demanded (at_item way n k i, w, run, e, p) = cc
+the_first_import_is_not_demanded (at_constant c, w, run, e, p) = cc
+the_first_import_is_not_demanded (nowhere, w, run, e, p) = cc
+
+-- ---- after two turns the first item is what it was before any
+
+body_of : Option Part → Body
+body_of (Some (a_group b reads)) = b
+body_of (Some (a_repeat run b)) = b
+body_of _ = tree_body swapping
+
+abbrev body : Body
+body = body_of (part_at swapping the_tree 0)
+
+abbrev IsWantedForFirst : Site → Type 0
+IsWantedForFirst site = Wanted toy_rows with_input swapping (read_of 0 ∷ []) site
+
+back_to_the_constant : IsWantedForFirst (at_constant (a_value (whole 7)))
+unfolding row_of_kind table values functions elsewhere attributes geometry_kinds instance_kinds groups converted toy_rows with_input no_run body_of
+back_to_the_constant =
+    let after_two : IsWantedForFirst (at_item the_tree 0 2 0) = a_result {s = 0} (run_at swapping 0) body (whole 2) (a_root (read_of 0) (inl refl)) refl (2, refl) in
+    let after_one : IsWantedForFirst (at_item the_tree 0 1 1) = an_item (run_at swapping 0) body (a_later_item after_two) refl in
+    let before : IsWantedForFirst (at_item the_tree 0 0 0) = an_item (run_at swapping 0) body (a_later_item after_one) refl in
+    a_first_item (run_at swapping 0) body before refl
