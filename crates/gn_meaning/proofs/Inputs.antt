@@ -4,6 +4,7 @@ use Rattle.std.specs.Prelude.{Bool, true, false, not, ◌||◌, IsTrue, find, by
 use Rattle.std.specs.Option.{option_map_or}
 use Rattle.std.specs.List.{list_any}
 use Rattle.std.proofs.lemmas.List.{length-append}
+use Rattle.std.proofs.lemmas.Slice.Eq.{bytes_eq-Decides}
 use Rattle.gn_kinds.specs.declared.row.SocketKind.{SocketKind}
 use Rattle.gn_kinds.specs.declared.row.DefaultValue.{DefaultValue}
 use Rattle.gn_kinds.specs.declared.row.DefaultValue.TheVariants.{Zero}
@@ -21,7 +22,8 @@ use Rattle.gn_node_set.specs.Meanings.{Has}
 use Rattle.gn_meaning.specs.Sites.{Way, at_constant, a_value, default_at, Read, plain_read, nowhere}
 use Rattle.gn_meaning.specs.Reads.{input_reads, unwritten, socket_reads, reads_of, link_read, read_at}
 use Rattle.gn_meaning.proofs.Found.{Near, constant as near_constant, link_near}
-use Rattle.gn_meaning.proofs.Lists.{has_either, has_first, has_second, has_found, has_at, image_of, number_of}
+use Rattle.gn_meaning.proofs.Options.{some_same}
+use Rattle.gn_meaning.proofs.Lists.{has_either, has_first, has_second, has_found, passes, has_at, image_of, number_of}
 use Rattle.gn_meaning.proofs.Reached.{Reached, part, keeps_rule, link_part, input_part}
 
 not_true : (b : Bool) → ¬ IsTrue b → b ≡ false
@@ -106,19 +108,41 @@ module _ (t : Tree) (keeps : KeepsRules t) (s : Scope) (way : Way) where
 
     -- ---- a socket that takes no list reads once
 
+    input_once : (o : Option Shape) (x : Input) (kind : SocketKind) → ((shape : Shape) → o ≡ Some shape → shape.many ≡ false) → Reached t (an_input s o x) → length (input_reads s way kind x) ≡ 1
+    input_once o (constant v) kind one h = refl
+    input_once o (link l) kind one h = refl
+    input_once None (links ls) kind one h = absurd (keeps_rule t rule.Links keeps h refl)
+    input_once (Some shape) (links ls) kind one h =
+        let fits : (not shape.many ≡ false) × (list_any (link_clashes s shape.kind) ls ≡ false) = neither (not shape.many) (list_any (link_clashes s shape.kind) ls) (keeps_rule t rule.Kinds keeps h) in
+        let no : not false ≡ false = subst (λ b. not b ≡ false) (one shape refl) fits.0 in
+        cc
+
+    unwritten_once : (shape : Shape) (default : DefaultValue) → shape.many ≡ false → length (unwritten shape default) ≡ 1
+    unwritten_once shape default e = rw e refl
+
+    one_or_more : (before after : List Read) → length before ≡ 1 → 0 < length (before ++ after)
+    one_or_more before after e = subst (λ n. 0 < n) (sym (length-append before after)) (let sum : 0 < length before + length after = omega (arith, e) in sum)
+
+    -- a list of sockets of which the first takes no list reads something
+    first_socket : (d : Declared) (rest : List Declared) (default : DefaultValue) → all ≡ d ∷ rest → d.shape.many ≡ false → length (socket_reads s way xs d default) ≡ 1
+    first_socket d rest default e one = by_found (find (λ x. bytes_eq d.name x.name) xs) refl
+      where
+        first_shape : (shape : Shape) → declared (d ∷ rest) d.name ≡ Some shape → shape.many ≡ false
+        first_shape shape h =
+            let same : d.shape ≡ shape = some_same (sym (ap (λ b. option_map (λ y. y.shape) (if b then Some d else find (λ y. bytes_eq d.name y.name) rest)) ((bytes_eq-Decides d.name d.name).1 refl)) ∙ h) in
+            ap (λ y. y.many) (sym same) ∙ one
+
+        by_found : (o : Option Named) → find (λ x. bytes_eq d.name x.name) xs ≡ o → length (option_map_or (λ x. input_reads s way d.shape.kind x.input) o (unwritten d.shape default)) ≡ 1
+        by_found None f = unwritten_once d.shape default one
+        by_found (Some x) f =
+            let named : d.name ≡ x.name = (bytes_eq-Decides d.name x.name).0 (passes (λ y. bytes_eq d.name y.name) xs x f) in
+            input_once (declared all x.name) x.input d.shape.kind (λ shape h. first_shape shape (sym (λ i. declared (e i) (sym named i)) ∙ h)) (there d.name x f)
+
+    pub first_reads : (d : Declared) (rest : List Declared) (defaults : List DefaultValue) → all ≡ d ∷ rest → d.shape.many ≡ false → 0 < length (reads_of s way xs (d ∷ rest) defaults)
+    first_reads d rest [] e one = one_or_more (socket_reads s way xs d Zero) (reads_of s way xs rest []) (first_socket d rest Zero e one)
+    first_reads d rest (x ∷ more) e one = one_or_more (socket_reads s way xs d x) (reads_of s way xs rest more) (first_socket d rest x e one)
+
     module _ (single : AllSingle all) where
-      input_once : (o : Option Shape) (x : Input) (kind : SocketKind) → ((shape : Shape) → o ≡ Some shape → shape.many ≡ false) → Reached t (an_input s o x) → length (input_reads s way kind x) ≡ 1
-      input_once o (constant v) kind one h = refl
-      input_once o (link l) kind one h = refl
-      input_once None (links ls) kind one h = absurd (keeps_rule t rule.Links keeps h refl)
-      input_once (Some shape) (links ls) kind one h =
-          let fits : (not shape.many ≡ false) × (list_any (link_clashes s shape.kind) ls ≡ false) = neither (not shape.many) (list_any (link_clashes s shape.kind) ls) (keeps_rule t rule.Kinds keeps h) in
-          let no : not false ≡ false = subst (λ b. not b ≡ false) (one shape refl) fits.0 in
-          cc
-
-      unwritten_once : (shape : Shape) (default : DefaultValue) → shape.many ≡ false → length (unwritten shape default) ≡ 1
-      unwritten_once shape default e = rw e refl
-
       socket_once : (d : Declared) (default : DefaultValue) → d.shape.many ≡ false → length (socket_reads s way xs d default) ≡ 1
       socket_once d default one = by_found (find (λ x. bytes_eq d.name x.name) xs) refl
         where

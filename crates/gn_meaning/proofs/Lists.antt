@@ -1,5 +1,5 @@
 -- Members of lists.
-use Rattle.std.proofs.Common.{◌≡◌, ◌<◌, ◌⊎◌, inl, inr, ℕ, zero, suc, List, [], ◌∷◌, ◌++◌, length, map, Some, refl, arith}
+use Rattle.std.proofs.Common.{◌≡◌, ◌<◌, ◌⊎◌, inl, inr, ℕ, zero, suc, List, [], ◌∷◌, ◌++◌, length, map, Some, refl, sym, ◌∙◌, ap, arith}
 use Rattle.std.specs.Prelude.{Bool, true, false, find, slice_get, slice_index_or, if◌then◌else◌}
 use Rattle.gn_node_set.specs.Meanings.{Has}
 
@@ -44,3 +44,11 @@ pub get_below : {A : Type 0} (xs : List A) (i : ℕ) → i < length xs → (x : 
 get_below [] i h = absurd (omega (arith, h))
 get_below (x ∷ xs) zero h = (x, refl)
 get_below (x ∷ xs) (suc i) h = get_below xs i (omega (arith, h))
+
+pub passes : {A : Type 0} (p : A → Bool) (xs : List A) (x : A) → find p xs ≡ Some x → p x ≡ true
+passes p [] x e = cc
+passes p (y ∷ xs) x e = by_test (p y) refl (passes p xs x) e
+  where
+    by_test : (b : Bool) → p y ≡ b → (find p xs ≡ Some x → p x ≡ true) → (if b then Some y else find p xs) ≡ Some x → p x ≡ true
+    by_test true at rest h = let same : y ≡ x = cc in ap p (sym same) ∙ at
+    by_test false at rest h = rest h

@@ -10,7 +10,7 @@ use Rattle.gn_meaning.specs.Forms.{HasForm}
 use Rattle.gn_meaning.specs.There.{IsThere}
 use Rattle.gn_meaning.specs.Denotation.{Given, Ends}
 use Rattle.gn_meaning.specs.Demand.{Wanted, output_read}
-use Rattle.gn_meaning.specs.Given.{GivesAll}
+use Rattle.gn_meaning.specs.Enough.{GivesAll}
 use Rattle.gn_meaning.specs.Claims.{HasOneValue}
 use Rattle.gn_meaning.proofs.Values.{one_value}
 use Rattle.gn_meaning.proofs.Grounded.{all_grounded}

@@ -1,5 +1,5 @@
 -- In a tree that keeps the rules, the parts of a list: what they read, and the lists that they open.
-use Rattle.std.proofs.Common.{◌≡◌, ◌<◌, ◌≤◌, ◌⊎◌, inl, inr, ℕ, zero, suc, List, ◌∷◌, length, map, Option, Some, None, codes, refl, sym, ◌∙◌, ap, subst, arith}
+use Rattle.std.proofs.Common.{◌≡◌, ◌<◌, ◌≤◌, ◌⊎◌, inl, inr, ℕ, zero, suc, List, [], ◌∷◌, length, map, Option, Some, None, codes, refl, sym, ◌∙◌, ap, subst, arith}
 use Rattle.std.specs.Prelude.{Bool, true, false, bytes_eq, IsTrue, option_map, option_and_then, if◌then◌else◌}
 use Rattle.std.proofs.lemmas.List.{length-map}
 use Rattle.std.proofs.lemmas.Slice.Eq.{bytes_eq-Decides}
@@ -7,9 +7,11 @@ use Rattle.gn_lazy.specs.declared.path.PathStep.{PathStep}
 use Rattle.gn_kinds.specs.declared.row.SocketKind.TheVariants.{Int}
 use Rattle.gn_kinds.specs.Row.{Text}
 use Rattle.gn_places.specs.Place.{key}
+use Rattle.gn_tree.specs.NodeKinds.{Kind}
 use Rattle.gn_tree.specs.Trees.{Named, Node, node, Settings, Nodes, no_nodes, and_node, Tree, node_size, settings_size, nodes_size}
 use Rattle.gn_cycle.specs.Graph.{has_edge}
-use Rattle.gn_rules.specs.Sockets.{Declared, one, one_of, group_in, items_in, inputs_of, outputs_of, inputs_of_kind, node_at}
+use Rattle.gn_rules.specs.Sockets.{Declared, one, one_of, group_in, items_in, inputs_of, outputs_of, inputs_of_kind, is_zone, node_at}
+use Rattle.gn_rules.specs.Scopes.{Scope}
 use Rattle.gn_rules.specs.Things.{the_settings, the_inputs}
 use Rattle.gn_rules.specs.Rules.{KeepsRules, graph_of}
 use Rattle.gn_node_set.specs.Meanings.{Has}
@@ -47,13 +49,21 @@ group_by kind (Some b) run inner reads e = by_name (bytes_eq kind (codes "group"
     by_name true h = cc
     by_name false h = cc
 
-repeat_by : (kind : Text) (o : Option Body) (run other : Run) (inner : Body) → part_by kind o run ≡ a_repeat other inner → (o ≡ Some inner) × (bytes_eq kind (codes "group") ≡ false)
+repeat_by : (kind : Text) (o : Option Body) (run other : Run) (inner : Body) → part_by kind o run ≡ a_repeat other inner → (o ≡ Some inner) × (bytes_eq kind (codes "group") ≡ false) × (run ≡ other)
 repeat_by kind None run other inner e = cc
 repeat_by kind (Some b) run other inner e = by_name (bytes_eq kind (codes "group")) refl e
   where
-    by_name : (group : Bool) → bytes_eq kind (codes "group") ≡ group → (if group then a_group b run.reads else a_repeat run b) ≡ a_repeat other inner → (Some b ≡ Some inner) × (bytes_eq kind (codes "group") ≡ false)
+    by_name : (group : Bool) → bytes_eq kind (codes "group") ≡ group → (if group then a_group b run.reads else a_repeat run b) ≡ a_repeat other inner → (Some b ≡ Some inner) × (bytes_eq kind (codes "group") ≡ false) × (run ≡ other)
     by_name true at h = cc
-    by_name false at h = (cc, at)
+    by_name false at h = (cc, at, cc)
+
+-- the kind of a node has its name
+one_name : (zone : Bool) (name : Text) (x y : Kind) → x.name ≡ name → y.name ≡ name → (let z : Kind = if zone then x else y in z.name) ≡ name
+one_name true name x y e f = e
+one_name false name x y e f = f
+
+pub kind_name : (s : Scope) (id kind : Text) (set : Settings) (inputs : List Named) → (kind_in s (node id kind set inputs)).name ≡ kind
+kind_name s id kind set inputs = one_name (is_zone set) kind (record { name = kind; settings = set; groups = s.groups }) (record { name = kind; settings = set; groups = [] }) refl refl
 
 -- above, or as many groups above and smaller
 abbrev pub Smaller : Body → Body → Type 0
@@ -81,13 +91,13 @@ module _ (t : Tree) (keeps : KeepsRules t) (form : HasForm t) where
     abbrev x : Node
     x = node id kind set inputs
 
-    abbrev all : List Declared
+    abbrev pub all : List Declared
     all = inputs_of b.scope.groups x
 
     set_form : SettingsHaveForm kind set
     set_form = node_form t b.scope.nodes n x holds.form there
 
-    inputs_there : InputsReached t b.scope all inputs
+    pub inputs_there : InputsReached t b.scope all inputs
     inputs_there = inputs_reached t b.scope all inputs (part (key (codes "in")) (the_inputs b.scope all inputs) (holds.nodes n x there) refl)
 
     near : AllNear t keeps b.scope way (λ m. IsTrue (has_edge (graph_of b.scope.nodes) n m)) (node_reads b.scope way x)
@@ -102,7 +112,7 @@ module _ (t : Tree) (keeps : KeepsRules t) (form : HasForm t) where
     inner_there inner e = inner_of t keeps b.scope kind set inner set_form (λ step y h. part step y (part (key (codes "set")) (the_settings b.scope set) (holds.nodes n x there) refl) h) e
 
     opened : (inner : Body) → body_in b.scope kind set ≡ Some inner → Holds t inner → Inner t b.scope kind (group_in set) (items_in set) (settings_size set) inner
-        → Opens t b x inner (node_reads b.scope way x) × ((bytes_eq kind (codes "group") ≡ false) → length inner.scope.entries ≡ suc (length inner.sockets))
+        → Opens t b x inner (node_reads b.scope way x) × ((bytes_eq kind (codes "group") ≡ false) → (kind ≡ codes "repeat") × (length inner.scope.entries ≡ suc (length inner.sockets)))
     opened inner e holds_it (group_inner name i g named at group above is) = (
       record {
         body = e;
@@ -122,10 +132,10 @@ module _ (t : Tree) (keeps : KeepsRules t) (form : HasForm t) where
             outs = ap length (zone_outputs b.scope.groups id kind set inputs xs is (further_zone (λ h. h.outputs) b.scope.groups set named ∙ items)) ∙ length-map xs one_of;
             has = has_input (one (codes "iterations") Int ∷ map one_of xs) (zone_inputs b.scope.groups id kind set inputs xs is (further_zone (λ h. h.inputs) b.scope.groups set named ∙ items)) (refl, singles xs);
           },
-          λ _. ap suc (length-map xs one_of),
+          λ _. (is, ap suc (length-map xs one_of)),
         )
 
-    pub opens : (inner : Body) → body_in b.scope kind set ≡ Some inner → Opens t b x inner (node_reads b.scope way x) × ((bytes_eq kind (codes "group") ≡ false) → length inner.scope.entries ≡ suc (length inner.sockets))
+    pub opens : (inner : Body) → body_in b.scope kind set ≡ Some inner → Opens t b x inner (node_reads b.scope way x) × ((bytes_eq kind (codes "group") ≡ false) → (kind ≡ codes "repeat") × (length inner.scope.entries ≡ suc (length inner.sockets)))
     opens inner e =
         let i : Inner t b.scope kind (group_in set) (items_in set) (settings_size set) inner = inner_there inner e in
         opened inner e (holds_inner t keeps form b holds i) i
@@ -136,7 +146,7 @@ module _ (t : Tree) (keeps : KeepsRules t) (form : HasForm t) where
     pub part_of : (x : Node) → node_at b.scope.nodes n ≡ Some x → part_at t way n ≡ Some (part_in b.scope way n x)
     part_of x e = ap (option_and_then (λ c. option_map (part_in c.scope way n) (node_at c.scope.nodes n))) at ∙ ap (option_map (part_in b.scope way n)) e
 
-    node_of : (p : Part) → part_at t way n ≡ Some p → (x : Node) × (node_at b.scope.nodes n ≡ Some x) × (part_in b.scope way n x ≡ p)
+    pub node_of : (p : Part) → part_at t way n ≡ Some p → (x : Node) × (node_at b.scope.nodes n ≡ Some x) × (part_in b.scope way n x ≡ p)
     node_of p e =
         map_some (part_in b.scope way n) (node_at b.scope.nodes n) p
         (sym (ap (option_and_then (λ c. option_map (part_in c.scope way n) (node_at c.scope.nodes n))) at) ∙ e)
@@ -170,9 +180,19 @@ module _ (t : Tree) (keeps : KeepsRules t) (form : HasForm t) where
           by_node (node id kind set inputs, there, same) =
               let own : Run = record { path = path_of way n; kind = kind_in b.scope (node id kind set inputs); reads = node_reads b.scope way (node id kind set inputs) } in
               let read : own.reads ≡ run.reads = sym (reads_by kind (body_in b.scope kind set) own) ∙ ap reads_in same in
-              let body : (body_in b.scope kind set ≡ Some inner) × (bytes_eq kind (codes "group") ≡ false) = repeat_by kind (body_in b.scope kind set) own run inner same in
-              let both : Opens t b (node id kind set inputs) inner own.reads × ((bytes_eq kind (codes "group") ≡ false) → length inner.scope.entries ≡ suc (length inner.sockets)) = opens way b holds n id kind set inputs there inner body.0 in
-              (node id kind set inputs, there, subst (Opens t b (node id kind set inputs) inner) read both.0, both.1 body.1)
+              let body : (body_in b.scope kind set ≡ Some inner) × (bytes_eq kind (codes "group") ≡ false) × (own ≡ run) = repeat_by kind (body_in b.scope kind set) own run inner same in
+              let both : Opens t b (node id kind set inputs) inner own.reads × ((bytes_eq kind (codes "group") ≡ false) → (kind ≡ codes "repeat") × (length inner.scope.entries ≡ suc (length inner.sockets))) = opens way b holds n id kind set inputs there inner body.0 in
+              (node id kind set inputs, there, subst (Opens t b (node id kind set inputs) inner) read both.0, (both.1 body.1).1)
+
+      -- a part that turns is a repeat
+      pub repeat_kind : (run : Run) (inner : Body) → part_at t way n ≡ Some (a_repeat run inner) → run.kind.name ≡ codes "repeat"
+      repeat_kind run inner e = by_node (node_of (a_repeat run inner) e)
+        where
+          by_node : (x : Node) × (node_at b.scope.nodes n ≡ Some x) × (part_in b.scope way n x ≡ a_repeat run inner) → run.kind.name ≡ codes "repeat"
+          by_node (node id kind set inputs, there, same) =
+              let own : Run = record { path = path_of way n; kind = kind_in b.scope (node id kind set inputs); reads = node_reads b.scope way (node id kind set inputs) } in
+              let body : (body_in b.scope kind set ≡ Some inner) × (bytes_eq kind (codes "group") ≡ false) × (own ≡ run) = repeat_by kind (body_in b.scope kind set) own run inner same in
+              ap (λ r. r.kind.name) (sym body.2) ∙ kind_name b.scope id kind set inputs ∙ ((opens way b holds n id kind set inputs there inner body.0).1 body.1).0
 
   -- ---- ways
 

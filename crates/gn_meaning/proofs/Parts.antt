@@ -67,13 +67,13 @@ pub data Inner (t : Tree) (s : Scope) (kind : Text) (named : Option Text) (items
 less : (i n : ℕ) → nat_lt i n ≡ true → i < n
 less i n e = grind (arith, nat_tests)
 
-not_false : (b : Bool) → ¬ IsTrue (not b) → b ≡ true
+pub not_false : (b : Bool) → ¬ IsTrue (not b) → b ≡ true
 not_false true n = refl
 not_false false n = absurd (n refl)
 
 module _ (t : Tree) (keeps : KeepsRules t) (s : Scope) (kind : Text) where
   -- what stands in these settings stands in the tree
-  abbrev Under : Settings → Type 0
+  abbrev pub Under : Settings → Type 0
   Under set = (step : Step) (x : Thing) → member_at step (settings_under s set) ≡ Some x → Reached t x
 
   inner_of_group : (set : Settings) (name : Text) (b : Body) → group_in set ≡ Some name → kind ≡ codes "group" → Reached t (a_group_name s name) → group_named s.groups name ≡ Some b → Inner t s kind (group_in set) (items_in set) (settings_size set) b

@@ -8,7 +8,7 @@ use Rattle.gn_node_set.specs.Meanings.{Has, Role, Plain, Switch, File, Zone, Cho
 use Rattle.gn_meaning.specs.Sites.{Way, into, plain_step, turn_step, Site, at_output, at_item, nowhere, Read, plain_read}
 use Rattle.gn_meaning.specs.Reads.{read_at, Run, Part, a_node, a_repeat, run_in, part_at, out_of, run_of}
 use Rattle.gn_meaning.specs.Denotation.{Given, read_value, read_values, choice_by, choice_in, done_for, run_done, run_output, output_value, input_value, first_item, value_within, StandsAt, Ends}
-use Rattle.gn_meaning.specs.Given.{GivesAll}
+use Rattle.gn_meaning.specs.Enough.{GivesAll}
 use Rattle.gn_meaning.proofs.Options.{Kept, some_same}
 use Rattle.gn_meaning.proofs.Lists.{has_at, get_below}
 use Rattle.gn_meaning.proofs.Values.{read_kept, reads_kept, choice_kept, output_kept, value_stays}
@@ -134,7 +134,7 @@ module _ {V : Type 0} (rows : Rows Kind V) (given : Given V) (t : Tree) where
         (read.1, (suc read.0, ap (output_value rows given t (Found read.0) way n s) e ∙ read.2))
     has_value (of_repeat {way} {n} {s} run b e there reads items) =
         let end : (done : Done V) × Ends rows given t run done = run_ends run (λ switch. all.indices way n s run there (run_at way n s (a_repeat run b) run e refl) switch) (λ r h. has_value (reads r h)) in
-        let head : (v : V) × (run_output rows given t (Found end.1.0) run 0 ≡ Some v) = gives run 0 end.0 end.1.0 end.1.1 (all.heads way n run b end.0 e end.1) in
+        let head : (v : V) × (run_output rows given t (Found end.1.0) run 0 ≡ Some v) = gives run 0 end.0 end.1.0 end.1.1 (all.heads way n s run b end.0 there e end.1) in
         let item : HasValue (at_item way n (rows.turns run.kind head.0) s) = has_value (items (rows.turns run.kind head.0)) in
         let k : ℕ = end.1.0 + item.1.0 in
         let first : run_output rows given t (Found k) run 0 ≡ Some head.0 = output_kept rows given t (Found end.1.0) (Found k) (more end.1.0 k (omega arith)) run 0 head.0 head.1 in

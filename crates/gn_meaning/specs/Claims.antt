@@ -1,11 +1,12 @@
 -- What holds of the meaning of every tree.
-use Rattle.std.specs.Prelude.{◌≡◌, ℕ, [], ◌∷◌, Some}
+use Rattle.std.specs.Prelude.{◌≡◌, ◌≤◌, ℕ, List, [], ◌∷◌, length, Some}
 use Rattle.gn_tree.specs.NodeKinds.{Kind}
 use Rattle.gn_tree.specs.Trees.{Tree, Link}
 use Rattle.gn_rules.specs.declared.shape.Shape.{Shape}
-use Rattle.gn_rules.specs.Scopes.{Scope, source}
+use Rattle.gn_rules.specs.Scopes.{Scope, source, tree_entries}
 use Rattle.gn_rules.specs.Rules.{KeepsRules}
-use Rattle.gn_node_set.specs.Meanings.{Choice, Done, Rows, converted}
+use Rattle.gn_node_set.specs.Paths.{Path}
+use Rattle.gn_node_set.specs.Meanings.{Choice, Warning, Done, Rows, converted}
 use Rattle.gn_meaning.specs.Sites.{Way, path_of, Site, at_output, Read}
 use Rattle.gn_meaning.specs.Reads.{link_site, Run, run_of}
 use Rattle.gn_meaning.specs.Forms.{HasForm}
@@ -13,7 +14,8 @@ use Rattle.gn_meaning.specs.There.{IsThere}
 use Rattle.gn_meaning.specs.Origins.{ComesFrom}
 use Rattle.gn_meaning.specs.Denotation.{Given, StandsAt, Chooses, Ends}
 use Rattle.gn_meaning.specs.Demand.{Wanted, output_read}
-use Rattle.gn_meaning.specs.Given.{GivesAll}
+use Rattle.gn_meaning.specs.Report.{IsReport}
+use Rattle.gn_meaning.specs.Enough.{GivesAll, FitTheTable}
 
 -- a link for which the rules find what it carries leads from a site
 abbrev pub LinksLead : Type 0
@@ -54,3 +56,12 @@ module _ {V : Type 0} (rows : Rows Kind V) where
       ((site : Site) → Wanted rows given t (output_read t ∷ []) site → IsThere t site)
       × ((site : Site) → IsThere t site → HasOneValue given t site)
       × ((site : Site) (run : Run) → IsThere t site → run_of t site ≡ Some run → (done : Done V) × Ends rows given t run done)
+
+  -- rows that fit the table of kinds give all that any tree asks for
+  abbrev pub RowsThatFitGiveAll : Type 0
+  RowsThatFitGiveAll = FitTheTable rows → (given : Given V) (t : Tree) → HasForm t → KeepsRules t → length tree_entries ≤ length given.inputs → GivesAll rows given t
+
+  -- a tree has one list of demanded paths in order, and one list of warnings
+  abbrev pub ReportsAreOne : Type 0
+  ReportsAreOne = (given : Given V) (t : Tree) (roots : List Read) (paths others : List Path) (warnings more : List Warning) →
+      IsReport rows given t roots paths warnings → IsReport rows given t roots others more → (paths ≡ others) × (warnings ≡ more)

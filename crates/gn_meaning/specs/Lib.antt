@@ -7,5 +7,5 @@ pub mod Origins
 pub mod Denotation
 pub mod Demand
 pub mod Report
-pub mod Given
+pub mod Enough
 pub mod Claims

@@ -1,6 +1,6 @@
 ghost use Rattle.gn_tree.specs.NodeKinds.{Kind};
 ghost use Rattle.gn_node_set.specs.Meanings.{Rows};
-ghost use Rattle.gn_meaning.specs.Claims.{LinksLead, PathsNameOneRun, SitesHaveOneOrigin, MeaningsAreOne, ValuesComeFromOrigins, WantedSitesHaveOneValue};
+ghost use Rattle.gn_meaning.specs.Claims.{LinksLead, PathsNameOneRun, SitesHaveOneOrigin, MeaningsAreOne, ValuesComeFromOrigins, WantedSitesHaveOneValue, RowsThatFitGiveAll, ReportsAreOne};
 
 /// What the kinds of nodes do, for contracts alone: the type of values, and the rows over it. A
 /// library of kinds gives these beside its code.
@@ -43,4 +43,16 @@ pub fn values_come_from_origins<K: KindRows>()
 /// value, and the run that it comes from ends.
 pub fn wanted_sites_have_one_value<K: KindRows>()
     ensures { WantedSitesHaveOneValue K.rows }
+{}
+
+/// Rows that give, whatever a node reads, as many outputs as the table of kinds has, a value for each
+/// repeat to turn by and an index to each switch, give all that the law of one value asks for, in each
+/// tree that keeps the rules.
+pub fn rows_that_fit_give_all<K: KindRows>()
+    ensures { RowsThatFitGiveAll K.rows }
+{}
+
+/// A tree has at most one list of demanded paths in path order, and one list of warnings beside it.
+pub fn reports_are_one<K: KindRows>()
+    ensures { ReportsAreOne K.rows }
 {}

@@ -28,5 +28,7 @@ fn the_laws_can_be_called_at_rows(_rt: HostRuntime) -> Result<(), Fail> {
     meanings_are_one::<NoValues>();
     values_come_from_origins::<NoValues>();
     wanted_sites_have_one_value::<NoValues>();
+    rows_that_fit_give_all::<NoValues>();
+    reports_are_one::<NoValues>();
     Ok(())
 }
