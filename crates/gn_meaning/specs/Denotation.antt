@@ -9,7 +9,7 @@ use Rattle.gn_node_set.specs.Meanings.{Role, Switch, Choice, no_case, Answer, Do
 use Rattle.gn_meaning.specs.Sites.{Constant, a_value, Way, the_tree, into, plain_step, turn_step, Site, at_output, at_input, at_item, at_constant, nowhere, Read}
 use Rattle.gn_meaning.specs.Reads.{read_at, Run, Part, a_node, a_group, a_repeat, part_at, out_of}
 
--- what is given with a tree: what its constants are, what its own inputs are given, and the answers of files
+-- what is given with a tree: the value of each constant, the values of the tree's own inputs, and the answer to each file name
 pub record Given (V : Type 0) : Type 0 where
   pub constant : Constant → V
   pub inputs : List V
@@ -34,11 +34,11 @@ module _ {V : Type 0} (rows : Rows Kind V) (given : Given V) (t : Tree) where
   abbrev pub choice_in : Values → Run → Option Choice
   choice_in value run = choice_by (rows.role run.kind) run.kind (read_value value (read_at run.reads 0))
 
-  -- what a run gives by its kind's row, for the values of its inputs
+  -- what its kind's row gives for the values that a run gets
   abbrev pub done_for : Run → List V → Done V
   done_for run inputs = rows.row run.path run.kind inputs (answer_for (rows.role run.kind) (given.files (rows.file run.kind)))
 
-  -- and for those that it gets
+  -- a run gets the inputs that its role and its choice select
   abbrev pub run_done : Values → Run → Option (Done V)
   run_done value run =
       option_and_then (λ choice. option_map (done_for run) (read_values value (selected (rows.role run.kind) choice run.reads))) (choice_in value run)
@@ -58,7 +58,7 @@ module _ {V : Type 0} (rows : Rows Kind V) (given : Given V) (t : Tree) where
   turn_value value way n (Some k) zero = Some (given.constant (a_value (int (pos k))))
   turn_value value way n (Some k) (suc i) = value (at_item way n k i)
 
-  -- an input of the list in a node
+  -- an input of the list in a group node or in a turn of a zone
   abbrev pub input_value : Values → Way → PathStep → ℕ → Option Part → Option V
   input_value value way step i None = None
   input_value value way step i (Some (a_node run)) = None
@@ -70,7 +70,7 @@ module _ {V : Type 0} (rows : Rows Kind V) (given : Given V) (t : Tree) where
   first_item value i (Some (a_repeat run b)) = read_value value (read_at run.reads (suc i))
   first_item value i _ = None
 
-  -- a value from those of the sites that it goes back to
+  -- the value of a site, from those of the sites that it goes back to
   abbrev pub next : Values → Values
   next value (at_output way n s) = output_value value way n s (part_at t way n)
   next value (at_input the_tree i) = slice_get given.inputs i

@@ -19,7 +19,7 @@ use Rattle.gn_meaning.specs.Bodies.{Body, body_in, body_at, kind_in}
 
 -- ---- links
 
--- the number of a kind, by which a conversion to it is named; geometry is never converted
+-- the number under which a conversion to a kind is named; geometry is never converted
 abbrev pub kind_number : SocketKind → ℕ
 kind_number Truth = 0
 kind_number Int = 1
