@@ -1,8 +1,8 @@
 -- The sources that nodes bring, one after the other, from some that one starts with: they can be listed.
 use Rattle.std.proofs.Common.{◌≡◌, inl, inr, ◌<◌, ◌≤◌, ◌+◌, ℕ, zero, suc, List, [], ◌∷◌, ◌++◌, Bool, true, false, refl, sym, ◌∙◌, ap, subst, arith}
 use Rattle.std.specs.Prelude.{if◌then◌else◌, ◌||◌}
-use Rattle.gn_exec_laws.specs.Paths.{Path, same_path}
-use Rattle.gn_exec_laws.specs.Meanings.{Has, Source, a_value, an_item, an_output, Node}
+use Rattle.gn_node_set.specs.Paths.{Path, same_path}
+use Rattle.gn_node_set.specs.Meanings.{Has, Source, a_value, an_item, an_output, Node}
 use Rattle.gn_exec_laws.proofs.Lists.{has_first, has_second, has_either}
 use Rattle.gn_exec_laws.proofs.Paths.{by_path}
 

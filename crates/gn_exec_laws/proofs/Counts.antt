@@ -1,7 +1,7 @@
 -- Each node is taken and finished at most once, and what is set stays so.
 use Rattle.std.proofs.Common.{◌≡◌, inl, inr, ℕ, List, [], ◌∷◌, sym, ◌∙◌, ap, subst}
-use Rattle.gn_exec_laws.specs.Meanings.{Has, Meanings}
-use Rattle.gn_exec_laws.specs.Graphs.{Task, AllDiffer}
+use Rattle.gn_node_set.specs.Meanings.{Has, Meanings, AllDiffer}
+use Rattle.gn_exec_laws.specs.Graphs.{Task}
 use Rattle.gn_exec_laws.specs.Fits.{CanStart, IsLawful}
 use Rattle.gn_exec_laws.specs.Machine.{Event, Take, Finish, Serve, Refuse, world, Allowed, IsRun}
 use Rattle.gn_exec_laws.specs.Claims.{takes, finishes, TakesOnce, TagsAgree}

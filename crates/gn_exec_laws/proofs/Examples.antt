@@ -3,9 +3,9 @@ use Rattle.std.proofs.Common.{◌≡◌, ℕ, [], ◌∷◌, Some, None, false, 
 use Rattle.gn_lazy.specs.declared.path.PathStep.{PathStep}
 use Rattle.gn_lazy.specs.declared.graph.Origin.TheVariants.{Input, Constant, Out}
 use Rattle.gn_lazy.specs.declared.graph.GraphNode.{GraphNode}
-use Rattle.gn_exec_laws.specs.Meanings.{a_value, an_item, an_output}
+use Rattle.gn_node_set.specs.Meanings.{a_value, an_item, an_output}
 use Rattle.gn_exec_laws.specs.Tasks.{source_of, inner_source}
-use Rattle.gn_exec_laws.specs.Paths.{ends_plain, same_path, zone_of}
+use Rattle.gn_node_set.specs.Paths.{ends_plain, same_path, zone_of}
 
 abbrev step : ℕ → PathStep
 step n = record { node = n; turn = None }

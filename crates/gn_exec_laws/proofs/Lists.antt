@@ -1,8 +1,7 @@
 -- Members, places and maps of lists.
 use Rattle.std.proofs.Common.{◌≡◌, ◌⊎◌, inl, inr, ℕ, zero, suc, List, [], ◌∷◌, ◌++◌, map, Option, Some, None, true, refl, sym, ◌∙◌, ap, subst}
 use Rattle.std.specs.Prelude.{is_some, slice_get, slice_index_or}
-use Rattle.gn_exec_laws.specs.Meanings.{Has}
-use Rattle.gn_exec_laws.specs.Graphs.{AllDiffer}
+use Rattle.gn_node_set.specs.Meanings.{Has, AllDiffer}
 
 pub some_same : {A : Type 0} {a b : A} → Some a ≡ Some b → a ≡ b
 some_same e = cc

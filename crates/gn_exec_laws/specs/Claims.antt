@@ -1,8 +1,8 @@
 -- What holds after each event of each list of events that are allowed, and where nothing may happen any more.
 use Rattle.std.specs.Prelude.{◌≡◌, ◌↔◌, ℕ, ◌+◌, List, [], ◌∷◌, ◌++◌, map, length, Option, Some, None, false, IsTrue, if◌then◌else◌, slice_get}
-use Rattle.gn_exec_laws.specs.Paths.{Path, ends_plain}
-use Rattle.gn_exec_laws.specs.Meanings.{Has, Source, an_output, Link, Node, Switch, Zone, Answer, Warning, Meanings}
-use Rattle.gn_exec_laws.specs.Graphs.{Task, AllDiffer, link_value, run_of, Answers, told_by, answer_of, links_read, Unfolded, Solves, BehindZone, BehindSwitch, Wanted, Demanded, ListsDemand}
+use Rattle.gn_node_set.specs.Paths.{Path, ends_plain}
+use Rattle.gn_node_set.specs.Meanings.{Has, Source, an_output, Link, Node, Switch, Zone, Answer, Warning, Meanings, AllDiffer}
+use Rattle.gn_exec_laws.specs.Graphs.{Task, link_value, run_of, Answers, told_by, answer_of, links_read, Unfolded, Solves, BehindZone, BehindSwitch, Wanted, Demanded, ListsDemand}
 use Rattle.gn_exec_laws.specs.Fits.{paths_of, is_file, LinkSort, NodesFit, Agree, CanStart, CanRun}
 use Rattle.gn_exec_laws.specs.Machine.{Event, Take, Finish, Serve, World, finished, is_set, reads, world, condition_set, sure, Used, MaybeUsed, Ready, Awaits, NoRefusals, Allowed, IsRun, IsServed}
 
@@ -110,9 +110,9 @@ module _ {K V S T : Type 0} (m : Meanings K V S T) where
       -- one of the inputs that its run would get is not set
       an_unset_input : (link : Link V) → Has (world m task es).graph node → Used m task (world m task es) node → Has (sure m (world m task es) node) link → is_set (world m task es) link.from ≡ false → WaitsFor node
       -- it is behind a demanded zone that isn't opened
-      a_zone : (zone : Node K V) (s : ℕ) → Demanded m task tells den zone → m.role zone.kind ≡ Zone → (world m task es).opened zone.path ≡ None → BehindZone m task tells den zone (an_output node.path s) → WaitsFor node
+      a_zone : (zone : Node K V) (s : ℕ) → Demanded m task tells den zone → m.rows.role zone.kind ≡ Zone → (world m task es).opened zone.path ≡ None → BehindZone m task tells den zone (an_output node.path s) → WaitsFor node
       -- it is behind a demanded switch whose condition isn't set
-      a_condition : (switch : Node K V) (s : ℕ) → Demanded m task tells den switch → m.role switch.kind ≡ Switch → condition_set m (world m task es) switch.links ≡ false → BehindSwitch m task tells den switch (an_output node.path s) → WaitsFor node
+      a_condition : (switch : Node K V) (s : ℕ) → Demanded m task tells den switch → m.rows.role switch.kind ≡ Switch → condition_set m (world m task es) switch.links ≡ false → BehindSwitch m task tells den switch (an_output node.path s) → WaitsFor node
 
   abbrev pub UnfinishedNodesWait : Type 0
   UnfinishedNodesWait =
@@ -141,7 +141,7 @@ module _ {K V S T : Type 0} (m : Meanings K V S T) where
 
   abbrev pub imports_of : List (Node K V) → List (Node K V)
   imports_of [] = []
-  imports_of (node ∷ nodes) = if is_file (m.role node.kind) then node ∷ imports_of nodes else imports_of nodes
+  imports_of (node ∷ nodes) = if is_file (m.rows.role node.kind) then node ∷ imports_of nodes else imports_of nodes
 
   -- each wanted source is set; the nodes that were taken are the demanded ones, and so are those that are finished; what may be used is used; each of these nodes had two events, and each import among them one more
   pub record EndsWell (task : Task K V) (tells : Answers m) (den : Path → List V) (es : List Event) : Type 0 where

@@ -5,7 +5,7 @@ use Rattle.gn_lazy.specs.declared.graph.Origin.{Origin}
 use Rattle.gn_lazy.specs.declared.graph.Origin.TheVariants.{Input, Constant, Out}
 use Rattle.gn_lazy.specs.declared.graph.Link.{Link as GraphLink}
 use Rattle.gn_lazy.specs.declared.graph.GraphNode.{GraphNode}
-use Rattle.gn_exec_laws.specs.Meanings.{Source, a_value, an_item, an_output, Link, Node, Opened}
+use Rattle.gn_node_set.specs.Meanings.{Source, a_value, an_item, an_output, Link, Node, Opened}
 use Rattle.gn_exec_laws.specs.Graphs.{Task}
 
 module _ {K V : Type 0} (nothing : V) where

@@ -1,4 +1,4 @@
-ghost use Rattle.gn_exec_laws.specs.Meanings.{Meanings};
+ghost use Rattle.gn_node_set.specs.Meanings.{Meanings};
 ghost use Rattle.gn_exec_laws.specs.Fits.{IsLawful};
 ghost use Rattle.gn_exec_laws.specs.Claims.{NodesAreTakenOnce, WorldsOnlyGrow, WorldsFit, ReadyNodesCanRun, TagsOfSetOutputsAgree, SetOutputsAreRight, UsedNodesAreDemanded, UnfinishedNodesWait, RunsEndWell, RunsCanEnd, UsesOnlyNarrow, GraphsHaveOneSolution, DemandsCanBeListed, PathsNameOneNode};
 

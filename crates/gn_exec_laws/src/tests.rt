@@ -6,7 +6,7 @@ struct NoNodes;
 
 impl NodeMeanings for NoNodes {
     ghost use Rattle.std.specs.Prelude.{refl, Some, None};
-    ghost use Rattle.gn_exec_laws.specs.Meanings.{Plain, First};
+    ghost use Rattle.gn_node_set.specs.Meanings.{Plain, no_case};
 
     ghost Kinds = { ⊥ };
 
@@ -17,12 +17,15 @@ impl NodeMeanings for NoNodes {
     ghost Sources = { Unit {0} };
 
     ghost meanings = { record {
-      role = λ kind. Plain;
-      file = λ kind. absurd kind;
-      choice = λ kind v. First;
-      row = λ p kind. absurd kind;
+      rows = record {
+        role = λ kind. Plain;
+        file = λ kind. absurd kind;
+        choice = λ kind v. no_case;
+        row = λ p kind. absurd kind;
+        turns = λ kind v. 0;
+        convert = λ v kind. v;
+      };
       opens = λ p kind. absurd kind;
-      convert = λ v kind. v;
       sort = λ v. tt;
       shift = λ s kind. Some s;
       fits = λ kind. absurd kind;
