@@ -6,8 +6,8 @@ use Rattle.gn_node_set.specs.Meanings.{Has, Source, a_value, an_item, an_output,
 use Rattle.gn_exec_laws.specs.Graphs.{Task, run_of, opened_by, outer_link, outer_node, turn_nodes, result_links, Answers, answer_of, condition}
 use Rattle.gn_exec_laws.specs.Fits.{is_file, SourceSort, LinkSort, LinkSorts, NodeFits, NodesFit, CanStart, OpensWell, IsLawful}
 use Rattle.gn_exec_laws.specs.Machine.{World, finished, is_there, is_set, reads, with_outputs, with_turns, first_world}
-use Rattle.gn_exec_laws.proofs.Lists.{append_nil, map_map, has_first, has_second, has_either, has_image, image_of, known_by}
-use Rattle.gn_exec_laws.proofs.Paths.{by_path, entry_here, entry_is}
+use Rattle.gn_node_set.proofs.Lists.{append_nil, map_map, has_first, has_second, has_either, has_image, image_of, known_by}
+use Rattle.gn_node_set.proofs.Paths.{by_path, entry_here, entry_is}
 use Rattle.gn_exec_laws.proofs.Sorts.{beside_of, beside_at, links_beside, selected_from, outer_nodes_fit, outer_link_sorts}
 use Rattle.gn_exec_laws.proofs.Shapes.{Shape, IsFed, IsDone, shape_start, not_opened, apart}
 use Rattle.gn_exec_laws.proofs.Kept.{Grows, same_world, node_stays, set_stays, fed_stays, Step, step_grows, step_shape, zone_well}

@@ -7,8 +7,8 @@ use Rattle.gn_exec_laws.specs.Graphs.{Task, link_value, links_read, result_links
 use Rattle.gn_exec_laws.specs.Fits.{is_file, SourceSort, LinkSort, LinkSorts, CanStart, IsLawful}
 use Rattle.gn_exec_laws.specs.Machine.{Event, Take, Finish, Serve, Refuse, World, finished, is_there, is_set, finish_by_role, finish_node, serve_node, world, sure, Reached, Used, IsRun, IsServed, condition_set, sure_as, possible_as, possible, reads}
 use Rattle.gn_exec_laws.specs.Claims.{takes, finishes, serves, IsOver, with_node, numbered, taken_nodes, imports_of, EndsWell}
-use Rattle.gn_exec_laws.proofs.Lists.{some_same, held, not_both, member_at, place_of, known_by, one_place}
-use Rattle.gn_exec_laws.proofs.Paths.{entry_here, entry_is}
+use Rattle.gn_node_set.proofs.Lists.{some_same, held, not_both, member_at, place_of, known_by, one_place}
+use Rattle.gn_node_set.proofs.Paths.{entry_here, entry_is}
 use Rattle.gn_exec_laws.proofs.Sorts.{beside_at, links_beside}
 use Rattle.gn_exec_laws.proofs.Shapes.{IsDone}
 use Rattle.gn_exec_laws.proofs.Kept.{Grows, Kept, kept, IsTakenWell, IsFinished, WasFinished, sure_read, number_of, used_stays}

@@ -5,7 +5,7 @@ use Rattle.gn_exec_laws.specs.Graphs.{Task, links_read, opened_by, outer_node}
 use Rattle.gn_exec_laws.specs.Fits.{NodesFit, CanStart, CanRun, OpensWell, IsLawful}
 use Rattle.gn_exec_laws.specs.Machine.{Event, Finish, World, finished, reads, world, Ready, IsRun}
 use Rattle.gn_exec_laws.specs.Claims.{WorldFits}
-use Rattle.gn_exec_laws.proofs.Lists.{append_nil, member_at, one_place}
+use Rattle.gn_node_set.proofs.Lists.{append_nil, member_at, one_place}
 use Rattle.gn_exec_laws.proofs.Sorts.{outer_nodes_fit, fit_joined}
 use Rattle.gn_exec_laws.proofs.Shapes.{Shape, link_read, can_run}
 use Rattle.gn_exec_laws.proofs.Kept.{Kept, kept, Step, AnyAnswer, step_of, zone_well, answer_there, fed_of, WasFinished}

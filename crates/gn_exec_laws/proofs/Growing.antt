@@ -6,7 +6,7 @@ use Rattle.gn_exec_laws.specs.Graphs.{Task, links_read, run_of}
 use Rattle.gn_exec_laws.specs.Fits.{is_file, CanStart, IsLawful}
 use Rattle.gn_exec_laws.specs.Machine.{Event, Take, World, is_set, reads, world, IsRun}
 use Rattle.gn_exec_laws.specs.Claims.{Stays}
-use Rattle.gn_exec_laws.proofs.Lists.{some_same, map_equal, member_at}
+use Rattle.gn_node_set.proofs.Lists.{some_same, map_equal, member_at}
 use Rattle.gn_exec_laws.proofs.Kept.{Grows, same_world, set_stays, read_stays, same_reads, Kept, kept, IsTakenWell, answer_there}
 use Rattle.gn_exec_laws.proofs.Counts.{event_grows}
 

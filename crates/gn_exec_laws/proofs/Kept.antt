@@ -6,8 +6,8 @@ use Rattle.gn_node_set.specs.Meanings.{Has, Source, a_value, an_item, an_output,
 use Rattle.gn_exec_laws.specs.Graphs.{Task, source_value, link_value, condition, links_read, run_of, opened_by, turn_nodes, result_links}
 use Rattle.gn_exec_laws.specs.Fits.{is_file, NodeFits, CanStart, OpensWell, IsLawful}
 use Rattle.gn_exec_laws.specs.Machine.{Event, Take, Finish, Serve, Refuse, World, finished, link_now, is_there, is_set, set_outputs, reads, led_on, with_outputs, with_turns, finish_by_role, finish_node, serve_node, world, condition_set, sure_as, sure, Reached, Used, Allowed, IsRun}
-use Rattle.gn_exec_laws.proofs.Lists.{held, not_both, member_at, place_of, same_place, known_by, one_place}
-use Rattle.gn_exec_laws.proofs.Paths.{by_path, entry_keeps}
+use Rattle.gn_node_set.proofs.Lists.{held, not_both, member_at, place_of, same_place, known_by, one_place}
+use Rattle.gn_node_set.proofs.Paths.{by_path, entry_keeps}
 use Rattle.gn_exec_laws.proofs.Shapes.{Shape, IsFed, can_run, shape_start, shape_outputs, shape_answer, shape_turns, not_set, not_opened}
 
 -- ---- what an event leaves as it was

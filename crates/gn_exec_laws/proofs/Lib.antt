@@ -1,5 +1,3 @@
-mod Lists
-mod Paths
 mod Sorts
 mod Shapes
 mod Kept

@@ -6,7 +6,7 @@ use Rattle.gn_node_set.specs.Meanings.{Has, Source, a_value, an_item, an_output,
 use Rattle.gn_exec_laws.specs.Graphs.{Task, link_value, choice_of, links_read, result_links, Answers, Unfolded, Solves, Brought, Wanted, ListsDemand}
 use Rattle.gn_exec_laws.specs.Fits.{CanStart, IsLawful}
 use Rattle.gn_exec_laws.specs.Machine.{World, reads}
-use Rattle.gn_exec_laws.proofs.Lists.{has_first, has_second, has_either, has_image, image_of, member_at}
+use Rattle.gn_node_set.proofs.Lists.{has_first, has_second, has_either, has_image, image_of, member_at}
 use Rattle.gn_exec_laws.proofs.Sorts.{selected_from}
 use Rattle.gn_exec_laws.proofs.Order.{Ordered}
 use Rattle.gn_exec_laws.proofs.Closure.{Reaches, height, reached, listed, listed_reaches, any_output, output_found_in, output_in}

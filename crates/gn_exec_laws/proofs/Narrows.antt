@@ -7,8 +7,8 @@ use Rattle.gn_exec_laws.specs.Graphs.{Task, condition, choice_of, opened_by, out
 use Rattle.gn_exec_laws.specs.Fits.{SourceSort, LinkSort, LinkSorts, NodeFits, CanStart, OpensWell, IsLawful}
 use Rattle.gn_exec_laws.specs.Machine.{Event, World, finished, is_set, reads, with_turns, world, condition_set, sure_as, sure, possible_as, possible, Reached, MaybeUsed, IsRun}
 use Rattle.gn_exec_laws.specs.Claims.{UsesNarrow}
-use Rattle.gn_exec_laws.proofs.Lists.{has_either, has_image, image_of, member_at, at_or}
-use Rattle.gn_exec_laws.proofs.Paths.{entry_is}
+use Rattle.gn_node_set.proofs.Lists.{has_either, has_image, image_of, member_at, at_or}
+use Rattle.gn_node_set.proofs.Paths.{entry_is}
 use Rattle.gn_exec_laws.proofs.Sorts.{head_from, tail_from, selected_from, each_fits, beside_of, links_beside}
 use Rattle.gn_exec_laws.proofs.Shapes.{Shape, apart, not_opened}
 use Rattle.gn_exec_laws.proofs.Kept.{Grows, Kept, kept, Step, AnyAnswer, step_of, zone_well, node_stays, set_stays, read_stays}

@@ -7,8 +7,8 @@ use Rattle.gn_node_set.specs.Meanings.{Has, Source, a_value, an_item, an_output,
 use Rattle.gn_exec_laws.specs.Graphs.{Task, outer_source, outer_link, outer_node, opened_by, run_of}
 use Rattle.gn_exec_laws.specs.Fits.{paths_of, SourceSort, LinkSort, LinkSorts, NodeFits, NodesFit, CanStart, OpensWell, IsLawful}
 use Rattle.gn_exec_laws.specs.Machine.{Event, World, finished, link_now, reads, led_on, with_turns, first_world, world, IsRun}
-use Rattle.gn_exec_laws.proofs.Lists.{append_nil, append_assoc, map_append, has_second, has_either, has_image, image_of, member_at, index_at, at_or}
-use Rattle.gn_exec_laws.proofs.Paths.{by_path, entry_is}
+use Rattle.gn_node_set.proofs.Lists.{append_nil, append_assoc, map_append, has_second, has_either, has_image, image_of, member_at, index_at, at_or}
+use Rattle.gn_node_set.proofs.Paths.{by_path, entry_is}
 use Rattle.gn_exec_laws.proofs.Sorts.{beside_of, links_beside, tail_from}
 use Rattle.gn_exec_laws.proofs.Shapes.{Shape, apart, turn_shut, outs_sorts, not_opened}
 use Rattle.gn_exec_laws.proofs.Kept.{Kept, kept, Step, AnyAnswer, step_of, zone_well}

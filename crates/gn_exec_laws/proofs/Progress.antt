@@ -8,7 +8,7 @@ use Rattle.gn_exec_laws.specs.Graphs.{Task, Answers}
 use Rattle.gn_exec_laws.specs.Fits.{LinkSorts, CanStart, IsLawful}
 use Rattle.gn_exec_laws.specs.Machine.{Event, Take, Finish, Serve, Refuse, World, is_set, world, sure, Reached, Used, NoRefusals, Allowed, IsRun, AnswersAs, IsServed}
 use Rattle.gn_exec_laws.specs.Claims.{takes, finishes, serves, numbered, IsOver}
-use Rattle.gn_exec_laws.proofs.Lists.{some_same, not_both, append_assoc, has_first, has_second, has_either, has_image, image_of, member_at, one_place}
+use Rattle.gn_node_set.proofs.Lists.{some_same, not_both, append_assoc, has_first, has_second, has_either, has_image, image_of, member_at, one_place}
 use Rattle.gn_exec_laws.proofs.Kept.{Kept, kept, IsTakenWell}
 use Rattle.gn_exec_laws.proofs.Counts.{was_taken, was_finished, takes_differ, finishes_differ, by_taker}
 use Rattle.gn_exec_laws.proofs.Order.{Ordered, ordered}

@@ -6,8 +6,8 @@ use Rattle.gn_node_set.specs.Meanings.{Has, Source, a_value, an_item, an_output,
 use Rattle.gn_exec_laws.specs.Graphs.{Task, source_value, link_value, condition, links_read, run_of, opened_by, outer_link, outer_node, turn_nodes, result_links, Answers, answer_of, Unfolded, Solves, Brought, Wanted, Demanded}
 use Rattle.gn_exec_laws.specs.Fits.{paths_of, is_file, KindFits, NodeFits, CanStart, OpensWell, IsLawful}
 use Rattle.gn_exec_laws.specs.Machine.{Event, Serve, World, link_now, is_there, is_set, set_outputs, reads, led_on, with_outputs, with_turns, first_world, world, condition_set, sure_as, sure, Reached, Used, IsRun, AnswersAs, IsServed}
-use Rattle.gn_exec_laws.proofs.Lists.{some_same, held, not_both, has_either, image_of, map_map, map_equal, index_image, known_by}
-use Rattle.gn_exec_laws.proofs.Paths.{by_path, entry_is, no_zone, turn_ends}
+use Rattle.gn_node_set.proofs.Lists.{some_same, held, not_both, has_either, image_of, map_map, map_equal, index_image, known_by}
+use Rattle.gn_node_set.proofs.Paths.{by_path, entry_is, no_zone, turn_ends}
 use Rattle.gn_exec_laws.proofs.Sorts.{converted_joined, each_fits}
 use Rattle.gn_exec_laws.proofs.Shapes.{IsFed}
 use Rattle.gn_exec_laws.proofs.Kept.{kept, Step, step_of}

@@ -6,8 +6,8 @@ use Rattle.gn_node_set.specs.Meanings.{Has, Source, a_value, an_item, an_output,
 use Rattle.gn_exec_laws.specs.Graphs.{Task, source_value, condition, choice_of, links_read, outer_link, outer_node}
 use Rattle.gn_exec_laws.specs.Fits.{paths_of, is_file, shifted, HasNoTags, SourceSort, LinkSort, LinkSorts, NodeFits, CanStart, Agree, first_of, CanRun, RunsWell, OpensWell, IsLawful}
 use Rattle.gn_exec_laws.specs.Machine.{World, finished, link_now, is_there, is_set, set_outputs, reads, led_on, with_outputs, with_turns, first_world}
-use Rattle.gn_exec_laws.proofs.Lists.{some_same, held, not_both, map_append, map_map, has_first, has_either, image_of, member_at, index_at, image_at, known_by, differ_joined}
-use Rattle.gn_exec_laws.proofs.Paths.{by_path, entry_is, no_zone, turn_ends}
+use Rattle.gn_node_set.proofs.Lists.{some_same, held, not_both, map_append, map_map, has_first, has_either, image_of, member_at, index_at, image_at, known_by, differ_joined}
+use Rattle.gn_node_set.proofs.Paths.{by_path, entry_is, no_zone, turn_ends}
 use Rattle.gn_exec_laws.proofs.Sorts.{Beside, beside_selected, beside_equal, beside_of, beside_at, selected_from, shifted_joined, converted_sort, converted_tags, more_link, more_links, more_fits, each_fits, links_beside, along_sort, outer_link_sorts, outer_node_fits}
 
 module _ {K V S T : Type 0} (m : Meanings K V S T) (lawful : IsLawful m) (task : Task K V) where

@@ -9,8 +9,8 @@ use Rattle.gn_exec_laws.specs.Graphs.{Task, told_by}
 use Rattle.gn_exec_laws.specs.Fits.{paths_of, CanStart, RunsWell, OpensWell, IsLawful, SourceSort, shifted}
 use Rattle.gn_exec_laws.specs.Claims.{IsOver, taken_nodes}
 use Rattle.gn_exec_laws.proofs.Kept.{IsTakenWell, kept}
-use Rattle.gn_exec_laws.proofs.Lists.{some_same, not_both}
-use Rattle.gn_exec_laws.proofs.Paths.{by_path, entry_is}
+use Rattle.gn_node_set.proofs.Lists.{some_same, not_both}
+use Rattle.gn_node_set.proofs.Paths.{by_path, entry_is}
 use Rattle.gn_exec_laws.specs.Machine.{Event, Take, Finish, Serve, Refuse, World, world, reads, is_set, sure, possible, Reached, Used, NoRefusals, Allowed, IsRun, IsServed}
 
 -- adding two numbers, choosing one of two, the length of a file, and a zone whose one turn adds 10

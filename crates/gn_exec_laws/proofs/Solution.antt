@@ -6,7 +6,7 @@ use Rattle.gn_node_set.specs.Meanings.{Has, Source, a_value, an_item, an_output,
 use Rattle.gn_exec_laws.specs.Graphs.{Task, source_value, link_value, condition, links_read, run_of, outer_link, outer_node, turn_nodes, result_links, Answers, answer_of, Unfolded, Solves}
 use Rattle.gn_exec_laws.specs.Fits.{SourceSort, LinkSort, LinkSorts, NodeFits, CanStart, IsLawful}
 use Rattle.gn_exec_laws.specs.Machine.{World, is_set, set_outputs, reads, first_world}
-use Rattle.gn_exec_laws.proofs.Lists.{index_at, at_image, map_equal, known_by}
+use Rattle.gn_node_set.proofs.Lists.{index_at, at_image, map_equal, known_by}
 use Rattle.gn_exec_laws.proofs.Sorts.{beside_of, beside_at, links_beside, selected_from, converted_joined}
 use Rattle.gn_exec_laws.proofs.Shapes.{Shape}
 use Rattle.gn_exec_laws.proofs.Order.{Ordered}

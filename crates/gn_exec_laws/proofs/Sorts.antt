@@ -5,7 +5,7 @@ use Rattle.gn_node_set.specs.Paths.{Path}
 use Rattle.gn_node_set.specs.Meanings.{Has, Source, a_value, an_item, an_output, Link, plain_link, along, Node, Role, Plain, Switch, File, Zone, Choice, one_case, all_cases, no_case, member, Meanings, head_of, tail_of, chosen, selected, converted}
 use Rattle.gn_exec_laws.specs.Graphs.{outer_source, outer_link, outer_node}
 use Rattle.gn_exec_laws.specs.Fits.{shifted, SourceSort, LinkSort, LinkSorts, HasItems, NodeFits, NodesFit, IsLawful}
-use Rattle.gn_exec_laws.proofs.Lists.{some_same, append_assoc, has_first, has_second, has_image, index_at, append_nil, map_append}
+use Rattle.gn_node_set.proofs.Lists.{some_same, append_assoc, has_first, has_second, has_image, index_at, append_nil, map_append}
 
 -- ---- lists side by side
 

@@ -8,7 +8,7 @@ use Rattle.gn_exec_laws.specs.Graphs.{Task, link_value, condition, choice_of, li
 use Rattle.gn_exec_laws.specs.Fits.{SourceSort, LinkSort, LinkSorts, NodeFits, CanStart, IsLawful}
 use Rattle.gn_exec_laws.specs.Machine.{Event, Take, Finish, Serve, Refuse, World, is_set, reads, world, condition_set, sure_as, sure, Reached, Used, IsRun, IsServed}
 use Rattle.gn_exec_laws.specs.Claims.{WaitsFor, its_finish, a_worker, its_answer, an_unset_input, a_zone, a_condition}
-use Rattle.gn_exec_laws.proofs.Lists.{member_at, place_of}
+use Rattle.gn_node_set.proofs.Lists.{member_at, place_of}
 use Rattle.gn_exec_laws.proofs.Sorts.{beside_of, links_beside, head_from, selected_from}
 use Rattle.gn_exec_laws.proofs.Shapes.{Shape}
 use Rattle.gn_exec_laws.proofs.Kept.{kept, number_of}
