@@ -25,7 +25,7 @@ was_finished (Take v k ∷ es) n h = let t : (v : ℕ) × Has es (Finish v n) = 
 was_finished (Serve k a ∷ es) n h = let t : (v : ℕ) × Has es (Finish v n) = was_finished es n h in (t.0, inr t.1)
 was_finished (Refuse v ∷ es) n h = let t : (v : ℕ) × Has es (Finish v n) = was_finished es n h in (t.0, inr t.1)
 
-worker_of : Event → ℕ
+unfoldable pub worker_of : Event → ℕ
 worker_of (Take v n) = v
 worker_of (Finish v n) = v
 worker_of (Serve n a) = 0

@@ -186,7 +186,7 @@ module _ {K V S T : Type 0} (m : Meanings K V S T) (lawful : IsLawful m) (task :
     serves_differ (Finish v n ∷ es) r = serves_differ es r.1
     serves_differ (Refuse v ∷ es) r = serves_differ es r.1
 
-    finish_tells : (w : World K V) (o : Option (Node K V)) → (finish_node m w o).answers ≡ w.answers
+    pub finish_tells : (w : World K V) (o : Option (Node K V)) → (finish_node m w o).answers ≡ w.answers
     finish_tells w None = refl
     finish_tells w (Some node) = by_role (m.rows.role node.kind)
       where
@@ -196,10 +196,10 @@ module _ {K V S T : Type 0} (m : Meanings K V S T) (lawful : IsLawful m) (task :
         by_role File = refl
         by_role Zone = refl
 
-    abbrev WasServed : List Event → World K V → Path → Type 0
+    abbrev pub WasServed : List Event → World K V → Path → Type 0
     WasServed es w p = (n : ℕ) × (node : Node K V) × Has (serves es) n × (slice_get w.graph n ≡ Some node) × (node.path ≡ p)
 
-    was_served : (es : List Event) → IsRun m task es → (p : Path) (a : Answer) → (W es).answers p ≡ Some a → WasServed es (W es) p
+    pub was_served : (es : List Event) → IsRun m task es → (p : Path) (a : Answer) → (W es).answers p ≡ Some a → WasServed es (W es) p
     was_served [] r p a e = cc
     was_served (Take v k ∷ es) r p a e = was_served es r.1 p a e
     was_served (Refuse v ∷ es) r p a e = was_served es r.1 p a e

@@ -26,12 +26,13 @@ module _ {K V S T : Type 0} (m : Meanings K V S T) where
     set = λ p vs e. b.set p vs (a.set p vs e);
     opened = λ p os e. b.opened p os (a.opened p os e);
     answers = λ p x e. b.answers p x (a.answers p x e);
+    warned = λ p ws e. b.warned p ws (a.warned p ws e);
     finished = λ p e. b.finished p (a.finished p e);
     leads = λ x e. b.leads x (set_stays m w v a x e) ∙ a.leads x e;
   }
 
 module _ {K V S T : Type 0} (m : Meanings K V S T) (lawful : IsLawful m) (task : Task K V) (c : CanStart m task) where
-  grows_on : (later es : List Event) → IsRun m task (later ++ es) → Grows m (world m task es) (world m task (later ++ es))
+  pub grows_on : (later es : List Event) → IsRun m task (later ++ es) → Grows m (world m task es) (world m task (later ++ es))
   grows_on [] es r = same_world m (world m task es)
   grows_on (e ∷ later) es r = both_grow m (world m task es) (world m task (later ++ es)) (world m task (e ∷ later ++ es)) (grows_on later es r.1) (event_grows m lawful task c e (later ++ es) r)
 
@@ -53,7 +54,7 @@ module _ {K V S T : Type 0} (m : Meanings K V S T) (lawful : IsLawful m) (task :
   same_answer Switch (Some x) b is is' keeps = cc
   same_answer Zone (Some x) b is is' keeps = cc
 
-  runs_stay : (later es : List Event) → IsRun m task (later ++ es) → (v n : ℕ) (node : Node K V) → Has es (Take v n) → slice_get (world m task es).graph n ≡ Some node
+  pub runs_stay : (later es : List Event) → IsRun m task (later ++ es) → (v n : ℕ) (node : Node K V) → Has es (Take v n) → slice_get (world m task es).graph n ≡ Some node
       → run_of m (reads m (world m task (later ++ es))) ((world m task (later ++ es)).answers node.path) node ≡ run_of m (reads m (world m task es)) ((world m task es).answers node.path) node
   runs_stay later es r v n node h at =
       let k : Kept m lawful task es = kept m lawful task c es (earlier_run later es r) in
@@ -76,4 +77,4 @@ module _ {K V S T : Type 0} (m : Meanings K V S T) (lawful : IsLawful m) (task :
   pub stays : (later es : List Event) → IsRun m task (later ++ es) → Stays m task later es
   stays later es r =
       let grows : Grows m (world m task es) (world m task (later ++ es)) = grows_on later es r in
-      record { graph = grows.graph; set = grows.set; opened = grows.opened; answers = grows.answers; finished = grows.finished; runs = runs_stay later es r }
+      record { graph = grows.graph; set = grows.set; opened = grows.opened; answers = grows.answers; warned = grows.warned; finished = grows.finished; runs = runs_stay later es r }

@@ -6,7 +6,7 @@ use Rattle.gn_node_set.specs.Meanings.{Has, Source, a_value, an_item, an_output,
 use Rattle.gn_exec_laws.specs.Graphs.{Task, source_value, link_value, condition, links_read, run_of, opened_by, turn_nodes, result_links}
 use Rattle.gn_exec_laws.specs.Fits.{is_file, NodeFits, CanStart, OpensWell, IsLawful}
 use Rattle.gn_exec_laws.specs.Machine.{Event, Take, Finish, Serve, Refuse, World, finished, link_now, is_there, is_set, set_outputs, reads, led_on, with_outputs, with_turns, finish_by_role, finish_node, serve_node, world, condition_set, sure_as, sure, Reached, Used, Allowed, IsRun}
-use Rattle.gn_node_set.proofs.Lists.{held, not_both, member_at, place_of, same_place, known_by, one_place}
+use Rattle.gn_node_set.proofs.Lists.{held, not_held, not_both, member_at, place_of, same_place, known_by, one_place}
 use Rattle.gn_node_set.proofs.Paths.{by_path, entry_keeps}
 use Rattle.gn_exec_laws.proofs.Shapes.{Shape, IsFed, can_run, shape_start, shape_outputs, shape_answer, shape_turns, not_set, not_opened}
 
@@ -19,11 +19,12 @@ module _ {K V S T : Type 0} (m : Meanings K V S T) where
     pub set : (p : Path) (vs : List V) → w.set p ≡ Some vs → v.set p ≡ Some vs
     pub opened : (p : Path) (outs : List (Link V)) → w.opened p ≡ Some outs → v.opened p ≡ Some outs
     pub answers : (p : Path) (a : Answer) → w.answers p ≡ Some a → v.answers p ≡ Some a
+    pub warned : (p : Path) (warnings : List Warning) → w.warned p ≡ Some warnings → v.warned p ≡ Some warnings
     pub finished : (p : Path) → finished w p ≡ true → finished v p ≡ true
     pub leads : (x : Source V) → is_set w x ≡ true → v.leads x ≡ w.leads x
 
   pub same_world : (w : World K V) → Grows w w
-  same_world w = record { graph = λ n node e. e; set = λ p vs e. e; opened = λ p os e. e; answers = λ p a e. e; finished = λ p e. e; leads = λ x e. refl }
+  same_world w = record { graph = λ n node e. e; set = λ p vs e. e; opened = λ p os e. e; answers = λ p a e. e; warned = λ p ws e. e; finished = λ p e. e; leads = λ x e. refl }
 
   module _ (w v : World K V) (grows : Grows w v) where
     pub node_stays : (node : Node K V) → Has w.graph node → Has v.graph node
@@ -157,6 +158,7 @@ module _ {K V S T : Type 0} (m : Meanings K V S T) (lawful : IsLawful m) (task :
     set = λ p vs e. entry_keeps node.path done.outputs w.set (not_set m lawful task w g node.path not (w.set node.path) refl) p vs e;
     opened = λ p os e. e;
     answers = λ p a e. e;
+    warned = entry_keeps node.path done.warnings w.warned (not_held (w.warned node.path) not);
     finished = λ p e. by_path (λ t. is_some (if t then Some done.warnings else w.warned p) ≡ true) node.path p (λ _. refl) (λ _. e);
     leads = λ x e. refl;
   }
@@ -167,6 +169,7 @@ module _ {K V S T : Type 0} (m : Meanings K V S T) (lawful : IsLawful m) (task :
     set = λ p vs e. e;
     opened = λ p os e. e;
     answers = λ p b e. entry_keeps node.path a w.answers none p b e;
+    warned = λ p ws e. e;
     finished = λ p e. e;
     leads = λ x e. refl;
   }
@@ -177,6 +180,7 @@ module _ {K V S T : Type 0} (m : Meanings K V S T) (lawful : IsLawful m) (task :
     set = λ p vs e. e;
     opened = λ p os e. entry_keeps zone.path outs w.opened (not_opened m lawful task w g zone.path not (w.opened zone.path) refl) p os e;
     answers = λ p a e. e;
+    warned = entry_keeps zone.path warnings w.warned (not_held (w.warned zone.path) not);
     finished = λ p e. by_path (λ t. is_some (if t then Some warnings else w.warned p) ≡ true) zone.path p (λ _. refl) (λ _. e);
     leads = λ x e. same_lead (w.leads x) (w.leads x).from e;
   }

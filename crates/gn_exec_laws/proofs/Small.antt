@@ -149,11 +149,21 @@ row_tags p repeats vs q t e = inr (input_tag vs q t e)
 one_source : (o : Option Path) (p : Path) (s t : ℕ) → tag_of o p ≡ Some s → tag_of o p ≡ Some t → s ≡ t
 one_source o p s t e f = some_same (sym e ∙ f)
 
+own_warning : (p : Path) (kind : Kind) (answer : Option Answer) (x : Warning) → Has (warned_by kind p answer) x → x.path ≡ p
+own_warning p (measures file) (Some Absent) x h = elim h [ inl same ↦ ap (λ y. y.path) same | inr z ↦ absurd z ]
+own_warning p (measures file) (Some TooLong) x h = elim h [ inl same ↦ ap (λ y. y.path) same | inr z ↦ absurd z ]
+own_warning p (measures file) (Some (Whole bytes)) x h = absurd h
+own_warning p (measures file) None x h = absurd h
+own_warning p adds answer x h = absurd h
+own_warning p chooses answer x h = absurd h
+own_warning p repeats answer x h = absurd h
+
 runs_well : (p : Path) (kind : Kind) (vs : List Value) (answer : Option Answer) → RunsWell small p kind vs (small_rows.row p kind vs answer)
 runs_well p kind vs answer = record {
   sorts = λ _. refl;
   count = λ _. (record { number = number_of_row kind vs answer; maker = maker_by kind p vs }, refl);
   tags = λ v h q t e. elim h [ inl same ↦ row_tags p kind vs q t (ap (λ u. tag_of u.maker q) (sym same) ∙ e) | inr z ↦ absurd z ];
+  warns = own_warning p kind answer;
   agree = λ u v h k q s t e f. elim h [
     | inl same ↦ elim k [
       | inl same' ↦ one_source (maker_by kind p vs) q s t (ap (λ x. tag_of x.maker q) (sym same) ∙ e) (ap (λ x. tag_of x.maker q) (sym same') ∙ f)

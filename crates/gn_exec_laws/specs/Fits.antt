@@ -1,7 +1,7 @@
 -- Which graphs fit, and what meanings have to keep.
 use Rattle.std.specs.Prelude.{◌≡◌, ◌≢◌, ◌⊎◌, ℕ, ◌<◌, List, [], ◌∷◌, ◌++◌, map, Option, Some, None, Bool, true, false, IsTrue, is_some, slice_get, option_and_then}
 use Rattle.gn_node_set.specs.Paths.{Path, ends_plain, has_turn, zone_of}
-use Rattle.gn_node_set.specs.Meanings.{Has, Source, a_value, an_item, an_output, Link, Node, Opened, Role, File, Zone, Answer, Done, Meanings, AllDiffer, selected}
+use Rattle.gn_node_set.specs.Meanings.{Has, Source, a_value, an_item, an_output, Link, Node, Opened, Role, File, Zone, Answer, Warning, Done, Meanings, AllDiffer, selected}
 use Rattle.gn_exec_laws.specs.Graphs.{Task}
 
 abbrev pub paths_of : {K V : Type 0} → List (Node K V) → List Path
@@ -82,12 +82,13 @@ module _ {K V S T : Type 0} (m : Meanings K V S T) where
     pub not_own : (v : V) → Has inputs v → m.tag v path ≡ None
     pub answered : is_some answer ≡ is_file (m.rows.role kind)
 
-  -- what it gives: outputs of their sorts, whose tags are the node's own or are those of inputs; a zone's run gives one value
+  -- what it gives: outputs of their sorts, whose tags are the node's own or are those of inputs, and warnings under its own path; a zone's run gives one value
   pub record RunsWell (path : Path) (kind : K) (inputs : List V) (done : Done V) : Type 0 where
     pub sorts : m.rows.role kind ≢ Zone → map m.sort done.outputs ≡ m.gives kind
     pub count : m.rows.role kind ≡ Zone → (v : V) × (done.outputs ≡ v ∷ [])
     pub tags : (v : V) → Has done.outputs v → (p : Path) (t : T) → m.tag v p ≡ Some t → (p ≡ path) ⊎ ((u : V) × Has inputs u × (m.tag u p ≡ Some t))
     pub agree : (u v : V) → Has done.outputs u → Has done.outputs v → Agree u v
+    pub warns : (warning : Warning) → Has done.warnings warning → warning.path ≡ path
 
   -- what a zone opens: nodes in its turns that are less high than it, each fitting behind those before it, and a link for each of its outputs
   pub record OpensWell (path : Path) (kind : K) (opened : Opened K V) : Type 0 where
@@ -102,3 +103,9 @@ module _ {K V S T : Type 0} (m : Meanings K V S T) where
     pub opens : (path : Path) (kind : K) (count : V) (sorts : List S) → IsTrue (ends_plain path) → m.rows.role kind ≡ Zone → KindFits kind sorts → OpensWell path kind (m.opens path kind count)
     pub conversion_sorts : (v : V) (kind : ℕ) (s : S) → m.shift (m.sort v) kind ≡ Some s → m.sort (m.rows.convert v kind) ≡ s
     pub conversion_tags : (v : V) (kind : ℕ) (s : S) → m.shift (m.sort v) kind ≡ Some s → (p : Path) → m.tag (m.rows.convert v kind) p ≡ m.tag v p
+
+  -- ---- sharing
+
+  -- where values of some sorts can be shared, these sorts are not converted
+  abbrev pub SharedStay : (S → Bool) → Type 0
+  SharedStay shareable = (s : S) (kind : ℕ) → IsTrue (shareable s) → m.shift s kind ≡ None

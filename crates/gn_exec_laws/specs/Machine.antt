@@ -1,8 +1,8 @@
 -- The events of the executor, and the world that a list of them leaves. Lists begin with the last event.
-use Rattle.std.specs.Prelude.{◌≡◌, ℕ, ◌<◌, List, [], ◌∷◌, ◌++◌, Option, Some, None, Bool, true, false, is_some, unwrap_or, IsTrue, if◌then◌else◌, slice_get, slice_index_or}
+use Rattle.std.specs.Prelude.{◌≡◌, ℕ, ◌<◌, List, [], ◌∷◌, ◌++◌, map, Option, Some, None, Bool, true, false, is_some, unwrap_or, IsTrue, if◌then◌else◌, slice_get, slice_index_or}
 use Rattle.gn_node_set.specs.Paths.{Path, same_path, with_entry}
 use Rattle.gn_node_set.specs.Meanings.{Has, Source, a_value, an_item, an_output, Link, plain_link, along, Node, Role, Switch, File, Zone, Choice, Answer, Warning, Done, Meanings, head_of, selected}
-use Rattle.gn_exec_laws.specs.Graphs.{Task, Reading, link_value, choice_of, run_of, turn_nodes, result_links, Answers}
+use Rattle.gn_exec_laws.specs.Graphs.{Task, Reading, link_value, choice_of, links_read, run_of, turn_nodes, result_links, Answers}
 
 pub data Event : Type 0 where
   Take : (worker node : ℕ) → Event
@@ -40,6 +40,15 @@ is_there w (an_output p s) = is_some (w.set p)
 abbrev pub is_set : {K V : Type 0} → World K V → Source V → Bool
 is_set w x = is_there w (w.leads x).from
 
+-- the node that has a number
+abbrev pub HasNumber : {K V : Type 0} → World K V → ℕ → Node K V → Type 0
+HasNumber w n node = slice_get w.graph n ≡ Some node
+
+-- the source is no output of a zone that is opened
+abbrev pub IsShut : {K V : Type 0} → World K V → Source V → Type 0
+IsShut w (an_output p s) = w.opened p ≡ None
+IsShut w _ = Unit {0}
+
 module _ {K V S T : Type 0} (m : Meanings K V S T) where
   -- the outputs that are set, and nothing elsewhere
   abbrev pub set_outputs : World K V → Path → List V
@@ -47,6 +56,13 @@ module _ {K V S T : Type 0} (m : Meanings K V S T) where
 
   abbrev pub reads : World K V → Reading m
   reads w link = link_value m (set_outputs w) (link_now w link)
+
+  -- what a run of the node gets by now, and what it gives
+  abbrev pub inputs_now : World K V → Node K V → List V
+  inputs_now w node = map (reads w) (links_read m (reads w) node)
+
+  abbrev pub run_now : World K V → Node K V → Done V
+  run_now w node = run_of m (reads w) (w.answers node.path) node
 
   -- ---- the effect of an event
 
@@ -72,7 +88,7 @@ module _ {K V S T : Type 0} (m : Meanings K V S T) where
 
   abbrev pub finish_by_role : Role → World K V → Node K V → World K V
   finish_by_role Zone w node = with_turns w node (turn_nodes m (reads w) node) (result_links m (reads w) node) (run_of m (reads w) None node).warnings
-  finish_by_role _ w node = with_outputs w node (run_of m (reads w) (w.answers node.path) node)
+  finish_by_role _ w node = with_outputs w node (run_now w node)
 
   abbrev pub finish_node : World K V → Option (Node K V) → World K V
   finish_node w None = w

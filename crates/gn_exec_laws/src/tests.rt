@@ -59,5 +59,11 @@ fn the_laws_can_be_called_at_a_set_of_nodes(_rt: HostRuntime) -> Result<(), Fail
     graphs_have_one_solution::<NoNodes>();
     demands_can_be_listed::<NoNodes>();
     paths_name_one_node::<NoNodes>();
+    imports_are_served_once::<NoNodes>();
+    events_are_bounded::<NoNodes>();
+    worlds_come_of_events::<NoNodes>();
+    zone_outputs_lead_on::<NoNodes>();
+    takes_are_counted::<NoNodes>();
+    demanded_imports_are_served::<NoNodes>();
     Ok(())
 }

@@ -1,5 +1,5 @@
 -- Members, places and maps of lists.
-use Rattle.std.proofs.Common.{◌≡◌, ◌⊎◌, inl, inr, ℕ, zero, suc, List, [], ◌∷◌, ◌++◌, map, Option, Some, None, true, refl, sym, ◌∙◌, ap, subst}
+use Rattle.std.proofs.Common.{◌≡◌, ◌⊎◌, inl, inr, ℕ, zero, suc, List, [], ◌∷◌, ◌++◌, map, Option, Some, None, true, false, refl, sym, ◌∙◌, ap, subst}
 use Rattle.std.specs.Prelude.{is_some, slice_get, slice_index_or}
 use Rattle.gn_node_set.specs.Meanings.{Has, AllDiffer}
 
@@ -12,6 +12,10 @@ held (Some a) e = (a, refl)
 
 pub is_held : {A : Type 0} (o : Option A) (a : A) → o ≡ Some a → is_some o ≡ true
 is_held o a e = ap is_some e
+
+pub not_held : {A : Type 0} (o : Option A) → is_some o ≡ false → o ≡ None
+not_held None e = refl
+not_held (Some a) e = cc
 
 pub not_both : {A : Type 0} {o : Option A} {a : A} → o ≡ None → o ≡ Some a → ⊥
 not_both e f = let bad : None ≡ Some _ = sym e ∙ f in cc
