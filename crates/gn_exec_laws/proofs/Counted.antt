@@ -158,17 +158,22 @@ module _ {K V S T : Type 0} (m : Meanings K V S T) (lawful : IsLawful m) (task :
         let t : (node : Node K V) × HasNumber w n node × (m.rows.role node.kind ≡ File) × Used m task w node = serves_once.imports n h in
         (t.0, t.1, t.2, uses.used t.0 (member_at w.graph n t.0 t.1) t.3)
 
+    answered_served : (node : Node K V) → Has w.graph node → (a : Answer) × (w.answers node.path ≡ Some a) → (n : ℕ) × Has (serves es) n × HasNumber w n node
+    answered_served node h a = number (was_served m lawful task c es r node.path a.0 a.1)
+      where
+        number : WasServed m lawful task c es w node.path → (n : ℕ) × Has (serves es) n × HasNumber w n node
+        number s = (s.0, s.2, s.3 ∙ ap Some (known_by (λ y. y.path) w.graph k.shape.differ s.1 node (member_at w.graph s.0 s.1 s.3) h s.4))
+
+    taken_served : (n : ℕ) (node : Node K V) → HasNumber w n node → m.rows.role node.kind ≡ File → IsTakenWell m lawful task w n → (j : ℕ) × Has (serves es) j × HasNumber w j node
+    taken_served n node at file t =
+        answered_served node (member_at w.graph n node at)
+        (subst (λ y. m.rows.role y.kind ≡ File → (a : Answer) × (w.answers y.path ≡ Some a)) (some_same (sym t.1 ∙ at)) t.3 file)
+
     demanded_served : IsOver m task es → (node : Node K V) → Demanded m task tells den node → m.rows.role node.kind ≡ File → (n : ℕ) × Has (serves es) n × HasNumber w n node
     demanded_served over node demanded file =
-        let t : ListsDemand m task tells den taken = (ended over).taken in
-        let n : (n : ℕ) × Has (takes es) n × (slice_get w.graph n ≡ Some node) = numbered_number m lawful task w.graph (takes es) node ((t.members node).1 demanded) in
+        let n : (n : ℕ) × Has (takes es) n × (slice_get w.graph n ≡ Some node) = numbered_number m lawful task w.graph (takes es) node (((ended over).taken.members node).1 demanded) in
         let v : (v : ℕ) × Has es (Take v n.0) = was_taken es n.0 n.1 in
-        let x : IsTakenWell m lawful task w n.0 = k.taken v.0 n.0 v.1 in
-        let same : x.0 ≡ node = some_same (sym x.1 ∙ n.2) in
-        let a : (a : Answer) × (w.answers x.0.path ≡ Some a) = x.3 (ap (λ y. m.rows.role y.kind) same ∙ file) in
-        let s : WasServed m lawful task c es w x.0.path = was_served m lawful task c es r x.0.path a.0 a.1 in
-        let is : s.1 ≡ node = known_by (λ y. y.path) w.graph k.shape.differ s.1 node (member_at w.graph s.0 s.1 s.3) (member_at w.graph n.0 node n.2) (s.4 ∙ ap (λ y. y.path) same) in
-        (s.0, s.2, s.3 ∙ ap Some is)
+        taken_served n.0 node n.2 file (k.taken v.0 n.0 v.1)
 
     pub serves_demanded : ServesDemanded m task tells den es
     serves_demanded = record { imports = served_demanded; all = demanded_served }

@@ -17,5 +17,6 @@ pub mod Listed
 pub mod Progress
 pub mod Counted
 pub mod Events
+pub mod Shared
 mod Small
 mod Examples

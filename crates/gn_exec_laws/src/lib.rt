@@ -9,8 +9,10 @@
 #![tactic(auto)]
 
 pub mod laws;
+pub mod node_set;
 
 pub use laws::NodeMeanings;
+pub use node_set::{MeaningsOf, NodeSet};
 
 #[cfg(test)]
 mod tests;
