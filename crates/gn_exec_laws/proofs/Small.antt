@@ -7,11 +7,11 @@ use Rattle.gn_node_set.specs.Paths.{Path, same_path, ends_plain, zone_of, has_tu
 use Rattle.gn_node_set.specs.Meanings.{Has, Source, a_value, an_item, an_output, Link, plain_link, Node, Opened, Role, Plain, Switch, File, Zone, Choice, one_case, all_cases, Answer, Whole, Absent, TooLong, Warning, Rows, Meanings}
 use Rattle.gn_exec_laws.specs.Graphs.{Task, told_by}
 use Rattle.gn_exec_laws.specs.Fits.{paths_of, CanStart, RunsWell, OpensWell, IsLawful, SourceSort, shifted}
-use Rattle.gn_exec_laws.specs.Claims.{IsOver, taken_nodes}
+use Rattle.gn_exec_laws.specs.Claims.{serves, IsOver, taken_nodes}
 use Rattle.gn_exec_laws.proofs.Kept.{IsTakenWell, kept}
 use Rattle.gn_node_set.proofs.Lists.{some_same, not_both}
 use Rattle.gn_node_set.proofs.Paths.{by_path, entry_is}
-use Rattle.gn_exec_laws.specs.Machine.{Event, Take, Finish, Serve, Refuse, World, world, reads, is_set, sure, possible, Reached, Used, NoRefusals, Allowed, IsRun, IsServed}
+use Rattle.gn_exec_laws.specs.Machine.{Event, Take, Finish, Serve, Refuse, World, world, reads, run_now, is_set, sure, possible, Reached, Used, NoRefusals, Allowed, IsRun, IsServed}
 
 -- adding two numbers, choosing one of two, the length of a file, and a zone whose one turn adds 10
 pub data Kind : Type 0 where
@@ -637,3 +637,13 @@ the_demand = refl
 
 the_count : length events ≡ 4 + 4 + 1
 the_count = refl
+
+the_served : serves events ≡ 0 ∷ []
+the_served = refl
+
+-- the zone's output leads to the node of its turn, and the import has what its run gives by what is read now
+the_zone_leads : (after events).leads (an_output (here 1) 0) ≡ plain_link (an_output in_turn 0)
+the_zone_leads = refl
+
+the_import_gives : (after events).set (here 0) ≡ Some (run_now small (after events) the_import).outputs
+the_import_gives = refl

@@ -1,5 +1,5 @@
 -- What holds after each event of each list of events that may come, and where nothing more may.
-use Rattle.std.specs.Prelude.{◌≡◌, ◌≢◌, ◌≤◌, ◌↔◌, ℕ, ◌+◌, ◌*◌, List, [], ◌∷◌, ◌++◌, map, length, Option, Some, None, Bool, false, IsTrue, if◌then◌else◌, slice_get}
+use Rattle.std.specs.Prelude.{◌≡◌, ◌≤◌, ◌↔◌, ℕ, ◌+◌, ◌*◌, List, [], ◌∷◌, ◌++◌, map, length, Option, Some, None, Bool, false, IsTrue, if◌then◌else◌, slice_get}
 use Rattle.gn_node_set.specs.Paths.{Path, ends_plain}
 use Rattle.gn_node_set.specs.Meanings.{Has, Source, an_output, Link, plain_link, Node, Role, Switch, File, Zone, Answer, Warning, Meanings, AllDiffer}
 use Rattle.gn_exec_laws.specs.Graphs.{Task, link_value, run_of, turn_nodes, result_links, Answers, told_by, answer_of, Unfolded, Solves, BehindZone, BehindSwitch, Wanted, Demanded, ListsDemand}
@@ -30,6 +30,9 @@ module _ {K V S T : Type 0} (m : Meanings K V S T) where
   -- a list of events that are allowed in their turn, whose imports are served what the files give
   abbrev pub IsRunOver : Task K V → (List ℕ → Answer) → List Event → Type 0
   IsRunOver task files es = IsRun m task es × IsServed m task (told_by m files) es
+
+  abbrev pub HasRole : Role → Node K V → Type 0
+  HasRole role node = m.rows.role node.kind ≡ role
 
   -- ---- of which runs a claim holds
 
@@ -70,7 +73,7 @@ module _ {K V S T : Type 0} (m : Meanings K V S T) where
     pub reads : (link : Link V) (s : S)
         → LinkSort m [] w.graph link s → IsTrue (is_set w link.from) → m.sort (reads m w link) ≡ s
 
-  -- an output of an opened zone leads where its result link leads by now, else a source to itself
+  -- an output of an opened zone leads where its result link does, and any other source to itself
   pub record LeadsOn (w : World K V) : Type 0 where
     pub results : (p : Path) (s : ℕ) (outs : List (Link V)) (link : Link V)
         → w.opened p ≡ Some outs → slice_get outs s ≡ Some link
@@ -94,9 +97,9 @@ module _ {K V S T : Type 0} (m : Meanings K V S T) where
       pub served : AllDiffer (serves es)
       pub imports : (n : ℕ) → Has (serves es) n
           → (node : Node K V) × HasNumber now n node
-          × (m.rows.role node.kind ≡ File) × Used m task now node
+          × HasRole File node × Used m task now node
 
-    -- each node is taken, finished and served at most once, and each of 64 workers refuses so
+    -- at most three events for each node of the graph by then, and a refusal for each of 64 workers
     abbrev pub AreBounded : Type 0
     AreBounded = length es ≤ 3 * length now.graph + 64
 
@@ -106,7 +109,7 @@ module _ {K V S T : Type 0} (m : Meanings K V S T) where
         (n : ℕ) (node : Node K V) → Ready m task es n node
         → CanRun m node.path node.kind (inputs_now m now node) (now.answers node.path)
 
-    -- what a source of a sort that can be shared leads to is not converted
+    -- a link that leads to a source of a sort that can be shared converts nothing on its way
     abbrev pub SharedArePlain : (S → Bool) → Type 0
     SharedArePlain shareable =
         (link : Link V) (s t : S) → LinkSort m [] now.graph link s
@@ -124,9 +127,9 @@ module _ {K V S T : Type 0} (m : Meanings K V S T) where
     -- what is in a world came of events
     pub record CameOfEvents : Type 0 where
       pub set : (p : Path) (vs : List V) → now.set p ≡ Some vs
-          → (node : Node K V) × (node.path ≡ p) × WasFinished node × (m.rows.role node.kind ≢ Zone)
+          → (node : Node K V) × (node.path ≡ p) × WasFinished node × (¬ HasRole Zone node)
       pub opened : (p : Path) (outs : List (Link V)) → now.opened p ≡ Some outs
-          → (zone : Node K V) × (zone.path ≡ p) × WasFinished zone × (m.rows.role zone.kind ≡ Zone)
+          → (zone : Node K V) × (zone.path ≡ p) × WasFinished zone × HasRole Zone zone
       pub warned : (p : Path) (warnings : List Warning) → now.warned p ≡ Some warnings
           → (node : Node K V) × (node.path ≡ p) × WasFinished node
       pub answers : (p : Path) (a : Answer) → now.answers p ≡ Some a
@@ -134,11 +137,11 @@ module _ {K V S T : Type 0} (m : Meanings K V S T) where
 
     -- of a finished node there is what its run gives by what is read now, of an import its answer
     pub record EventsLeft : Type 0 where
-      pub outputs : (node : Node K V) → WasFinished node → m.rows.role node.kind ≢ Zone
+      pub outputs : (node : Node K V) → WasFinished node → (¬ HasRole Zone node)
           → now.set node.path ≡ Some (run_now m now node).outputs
-      pub results : (zone : Node K V) → WasFinished zone → m.rows.role zone.kind ≡ Zone
+      pub results : (zone : Node K V) → WasFinished zone → HasRole Zone zone
           → now.opened zone.path ≡ Some (result_links m (reads m now) zone)
-      pub turns : (zone : Node K V) → WasFinished zone → m.rows.role zone.kind ≡ Zone
+      pub turns : (zone : Node K V) → WasFinished zone → HasRole Zone zone
           → (node : Node K V) → Has (turn_nodes m (reads m now) zone) node → Has now.graph node
       pub warnings : (node : Node K V) → WasFinished node
           → now.warned node.path ≡ Some (run_now m now node).warnings
@@ -210,8 +213,8 @@ module _ {K V S T : Type 0} (m : Meanings K V S T) where
 
   -- ---- over files
 
-  -- what is set is what the equations give, and so are the warnings of nodes that are finished
   module _ (task : Task K V) (tells : Answers m) (den : Path → List V) where
+    -- what is set is what the equations give, and so are the warnings of nodes that are finished
     pub record IsRight (w : World K V) : Type 0 where
       pub set : (p : Path) (vs : List V) → w.set p ≡ Some vs → vs ≡ den p
       -- a link whose value is set has the value that the equations give, also behind zones
@@ -233,8 +236,7 @@ module _ {K V S T : Type 0} (m : Meanings K V S T) where
 
     -- a node that is used is demanded, and one that was taken is used
     pub record UsesDemanded : Type 0 where
-      pub used : (node : Node K V)
-          → Has w.graph node → Used m task w node → IsDemanded node
+      pub used : (node : Node K V) → Has w.graph node → Used m task w node → IsDemanded node
       pub taken : (v n : ℕ) → Has es (Take v n)
           → (node : Node K V) × HasNumber w n node × Used m task w node
 
@@ -252,19 +254,16 @@ module _ {K V S T : Type 0} (m : Meanings K V S T) where
           → Has (sure m w node) link → is_set w link.from ≡ false → WaitsFor node
       -- it is behind a demanded zone that isn't opened
       a_zone : (zone : Node K V) (s : ℕ)
-          → IsDemanded zone → m.rows.role zone.kind ≡ Zone
-          → w.opened zone.path ≡ None
+          → IsDemanded zone → HasRole Zone zone → w.opened zone.path ≡ None
           → BehindZone m task tells den zone (an_output node.path s) → WaitsFor node
       -- it is behind a demanded switch whose condition isn't set
       a_condition : (switch : Node K V) (s : ℕ)
-          → IsDemanded switch → m.rows.role switch.kind ≡ Switch
-          → condition_set m w switch.links ≡ false
+          → IsDemanded switch → HasRole Switch switch → condition_set m w switch.links ≡ false
           → BehindSwitch m task tells den switch (an_output node.path s) → WaitsFor node
 
     abbrev pub UnfinishedWait : Type 0
     UnfinishedWait =
-        (node : Node K V) → IsDemanded node → finished w node.path ≡ false
-        → WaitsFor node
+        (node : Node K V) → IsDemanded node → finished w node.path ≡ false → WaitsFor node
 
   abbrev pub UsedNodesAreDemanded : Type 0
   UsedNodesAreDemanded = OnFiles UsesDemanded
@@ -305,9 +304,6 @@ module _ {K V S T : Type 0} (m : Meanings K V S T) where
     -- the members of the list are just the demanded nodes, each once
     abbrev Lists : List (Node K V) → Type 0
     Lists = ListsDemand m task tells den
-
-    abbrev HasRole : Role → Node K V → Type 0
-    HasRole role node = m.rows.role node.kind ≡ role
 
     -- each wanted source is set; the nodes that were taken are the demanded ones, and so are those
     -- that are finished; what may be used is used; each of these nodes had two events, and each

@@ -2,7 +2,7 @@
 use Rattle.std.proofs.Common.{◌≡◌, ◌≢◌, ◌⊎◌, inl, inr, ◌<◌, ◌≤◌, ℕ, suc, [], ◌∷◌, Option, Some, None, Bool, true, false, refl, sym, ◌∙◌, ap, subst, Ordering, Less, Equal, Greater, is_lt}
 use Rattle.std.specs.Prelude.{◌==◌, ◌&&◌, ◌||◌, nat_lt, cond}
 use Rattle.std.specs.Option.{option_cmp}
-use Rattle.std.specs.Ordering.{nat_cmp, ordering_then, ordering_reverse}
+use Rattle.std.specs.Ordering.{MatchOrdering, nat_cmp, ordering_then, ordering_reverse}
 use Rattle.std.specs.Cmp.{IsTotalOrder}
 use Rattle.std.specs.Cmp.Lexicographic.{slice_cmp, options_total}
 use Rattle.std.proofs.lemmas.Cmp.{tied_itself, nat_cmp_total, on_total, then_total, lists_total}
@@ -73,8 +73,6 @@ by_rank (greater e f g) = ap is_lt e ∙ sym f
 pub by_cmp : (p q : Path) → is_lt (slice_cmp step_cmp p q) ≡ path_before p q
 by_cmp p q = by_rank (paths p q)
 
--- ---- a strict total order
-
 total : IsTotalOrder {K = Path} (slice_cmp step_cmp)
 total = lists_total (then_total (on_total (λ s. s.node) nat_cmp_total) (on_total (λ s. s.turn) (options_total nat_cmp_total)))
 
@@ -85,6 +83,19 @@ cmp_less (greater e f g) b = let bad : true ≡ false = sym b ∙ f in cc
 
 is_less : {o : Ordering} {before same : Bool} → Ranked o before same → o ≡ Less → before ≡ true
 is_less r e = sym (by_rank r) ∙ ap is_lt e
+
+is_level : {o : Ordering} {before same : Bool} → Ranked o before same → o ≡ Equal → same ≡ true
+is_level (less e f) q = let bad : Less ≡ Equal = sym e ∙ q in cc
+is_level (level e f g) q = g
+is_level (greater e f g) q = let bad : Greater ≡ Equal = sym e ∙ q in cc
+
+-- what an answer of `cmp` says of two paths
+pub told_by_cmp : (p q : Path) (o : Ordering) → o ≡ slice_cmp step_cmp p q → MatchOrdering o (path_before p q ≡ true) (p ≡ q) (path_before q p ≡ true)
+told_by_cmp p q Less e = sym (by_cmp p q) ∙ ap is_lt (sym e)
+told_by_cmp p q Equal e = elim (path_tells p q) [ inl t ↦ t.1 | inr t ↦ absurd (let bad : true ≡ false = sym (is_level (paths p q) (sym e)) ∙ t.0 in cc) ]
+told_by_cmp p q Greater e = is_less (paths q p) (total.antisymm q p ∙ ap ordering_reverse (sym e))
+
+-- ---- a strict total order
 
 pub not_before_itself : (p : Path) → path_before p p ≡ false
 not_before_itself p = sym (by_cmp p p) ∙ ap is_lt (tied_itself total p)
