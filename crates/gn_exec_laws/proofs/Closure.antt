@@ -1,10 +1,10 @@
 -- The sources that nodes bring, one after the other, from some that one starts with: they can be listed.
 use Rattle.std.proofs.Common.{◌≡◌, inl, inr, ◌<◌, ◌≤◌, ◌+◌, ℕ, zero, suc, List, [], ◌∷◌, ◌++◌, Bool, true, false, refl, sym, ◌∙◌, ap, subst, arith}
 use Rattle.std.specs.Prelude.{if◌then◌else◌, ◌||◌}
-use Rattle.gn_exec_laws.specs.Paths.{Path, same_path}
-use Rattle.gn_exec_laws.specs.Meanings.{Has, Source, a_value, an_item, an_output, Node}
-use Rattle.gn_exec_laws.proofs.Lists.{has_first, has_second, has_either}
-use Rattle.gn_exec_laws.proofs.Paths.{by_path}
+use Rattle.gn_node_set.specs.Paths.{Path, same_path}
+use Rattle.gn_node_set.specs.Meanings.{Has, Source, a_value, an_item, an_output, Node}
+use Rattle.gn_node_set.proofs.Lists.{has_first, has_second, has_either}
+use Rattle.gn_node_set.proofs.Paths.{by_path}
 
 module _ {K V : Type 0} (graph : List (Node K V)) (starts : List (Source V)) (brings : Node K V → ℕ → List (Source V)) where
   -- the least set that holds the starts, and with an output of a node what the node brings for it

@@ -1,13 +1,13 @@
 -- A world in which every node is finished, whether it is used or not.
 use Rattle.std.proofs.Common.{◌≡◌, ◌≢◌, ◌⊎◌, inl, inr, ◌<◌, ◌+◌, ℕ, zero, suc, List, [], ◌∷◌, ◌++◌, map, Option, Some, None, Bool, true, false, refl, sym, ◌∙◌, ap, subst, arith}
 use Rattle.std.specs.Prelude.{is_some, if◌then◌else◌, slice_get, slice_index_or}
-use Rattle.gn_exec_laws.specs.Paths.{Path, with_entry}
-use Rattle.gn_exec_laws.specs.Meanings.{Has, Source, a_value, an_item, an_output, Link, Node, Role, Plain, Switch, File, Zone, Answer, Warning, Done, Meanings}
-use Rattle.gn_exec_laws.specs.Graphs.{Task, AllDiffer, run_of, opened_by, outer_link, outer_node, turn_nodes, result_links, Answers, answer_as, answer_of, condition}
+use Rattle.gn_node_set.specs.Paths.{Path, with_entry}
+use Rattle.gn_node_set.specs.Meanings.{Has, Source, a_value, an_item, an_output, Link, Node, Role, Plain, Switch, File, Zone, Answer, Warning, Done, Meanings, AllDiffer, answer_for}
+use Rattle.gn_exec_laws.specs.Graphs.{Task, run_of, opened_by, outer_link, outer_node, turn_nodes, result_links, Answers, answer_of, condition}
 use Rattle.gn_exec_laws.specs.Fits.{is_file, SourceSort, LinkSort, LinkSorts, NodeFits, NodesFit, CanStart, OpensWell, IsLawful}
 use Rattle.gn_exec_laws.specs.Machine.{World, finished, is_there, is_set, reads, with_outputs, with_turns, first_world}
-use Rattle.gn_exec_laws.proofs.Lists.{append_nil, map_map, has_first, has_second, has_either, has_image, image_of, known_by}
-use Rattle.gn_exec_laws.proofs.Paths.{by_path, entry_here, entry_is}
+use Rattle.gn_node_set.proofs.Lists.{append_nil, map_map, has_first, has_second, has_either, has_image, image_of, known_by}
+use Rattle.gn_node_set.proofs.Paths.{by_path, entry_here, entry_is}
 use Rattle.gn_exec_laws.proofs.Sorts.{beside_of, beside_at, links_beside, selected_from, outer_nodes_fit, outer_link_sorts}
 use Rattle.gn_exec_laws.proofs.Shapes.{Shape, IsFed, IsDone, shape_start, not_opened, apart}
 use Rattle.gn_exec_laws.proofs.Kept.{Grows, same_world, node_stays, set_stays, fed_stays, Step, step_grows, step_shape, zone_well}
@@ -24,11 +24,11 @@ module _ {K V S T : Type 0} (m : Meanings K V S T) (lawful : IsLawful m) (task :
   -- ---- the equations of the nodes that are finished
 
   pub record Solved (w : World K V) : Type 0 where
-    pub answers : (p : Path) (a : Answer) → w.answers p ≡ Some a → (node : Node K V) × Has w.graph node × (node.path ≡ p) × (m.role node.kind ≡ File) × (a ≡ tells node)
+    pub answers : (p : Path) (a : Answer) → w.answers p ≡ Some a → (node : Node K V) × Has w.graph node × (node.path ≡ p) × (m.rows.role node.kind ≡ File) × (a ≡ tells node)
     pub fed : (node : Node K V) → Has w.graph node → finished w node.path ≡ true → IsFed m lawful task w node
-    pub rows : (node : Node K V) → Has w.graph node → finished w node.path ≡ true → m.role node.kind ≢ Zone → w.set node.path ≡ Some (run_of m (reads m w) (answer_of m tells node) node).outputs
-    pub zones : (node : Node K V) → Has w.graph node → finished w node.path ≡ true → m.role node.kind ≡ Zone → w.opened node.path ≡ Some (result_links m (reads m w) node)
-    pub turns : (zone node : Node K V) → Has w.graph zone → finished w zone.path ≡ true → m.role zone.kind ≡ Zone → Has (turn_nodes m (reads m w) zone) node → Has w.graph node
+    pub rows : (node : Node K V) → Has w.graph node → finished w node.path ≡ true → m.rows.role node.kind ≢ Zone → w.set node.path ≡ Some (run_of m (reads m w) (answer_of m tells node) node).outputs
+    pub zones : (node : Node K V) → Has w.graph node → finished w node.path ≡ true → m.rows.role node.kind ≡ Zone → w.opened node.path ≡ Some (result_links m (reads m w) node)
+    pub turns : (zone node : Node K V) → Has w.graph zone → finished w zone.path ≡ true → m.rows.role zone.kind ≡ Zone → Has (turn_nodes m (reads m w) zone) node → Has w.graph node
 
   solved_start : Solved (first_world m task)
   solved_start = record { answers = λ p a e. cc; fed = λ node h e. cc; rows = λ node h e. cc; zones = λ node h e. cc; turns = λ zone node h e. cc }
@@ -47,10 +47,10 @@ module _ {K V S T : Type 0} (m : Meanings K V S T) (lawful : IsLawful m) (task :
     entry_or : (p : Path) (a : A) (table : Path → Option A) (q : Path) → is_some (with_entry p a table q) ≡ true → (p ≡ q) ⊎ (is_some (table q) ≡ true)
     entry_or p a table q = by_path (λ t. is_some (if t then Some a else table q) ≡ true → (p ≡ q) ⊎ (is_some (table q) ≡ true)) p q (λ same _. inl same) (λ _ e. inr e)
 
-  answer_is : (w : World K V) → Shape m lawful task w → Solved w → (node : Node K V) → Has w.graph node → (role : Role) → m.role node.kind ≡ role → (o : Option Answer) → w.answers node.path ≡ o → is_some o ≡ is_file role → o ≡ answer_as m role tells node
+  answer_is : (w : World K V) → Shape m lawful task w → Solved w → (node : Node K V) → Has w.graph node → (role : Role) → m.rows.role node.kind ≡ role → (o : Option Answer) → w.answers node.path ≡ o → is_some o ≡ is_file role → o ≡ answer_for role (tells node)
   answer_is w g s node h File is None e there = cc
   answer_is w g s node h File is (Some a) e there =
-      let x : (x : Node K V) × Has w.graph x × (x.path ≡ node.path) × (m.role x.kind ≡ File) × (a ≡ tells x) = s.answers node.path a e in
+      let x : (x : Node K V) × Has w.graph x × (x.path ≡ node.path) × (m.rows.role x.kind ≡ File) × (a ≡ tells x) = s.answers node.path a e in
       ap Some (x.4 ∙ ap tells (one_node w g x.0 node x.1 h x.2))
   answer_is w g s node h Plain is None e there = refl
   answer_is w g s node h Switch is None e there = refl
@@ -61,38 +61,38 @@ module _ {K V S T : Type 0} (m : Meanings K V S T) (lawful : IsLawful m) (task :
 
   module _ (w v : World K V) (g : Shape m lawful task w) (g' : Shape m lawful task v) (grows : Grows m w v) (s : Solved w) where
     -- what was finished before is solved still
-    old_rows : (node : Node K V) → Has w.graph node → finished w node.path ≡ true → m.role node.kind ≢ Zone → v.set node.path ≡ Some (run_of m (reads m v) (answer_of m tells node) node).outputs
+    old_rows : (node : Node K V) → Has w.graph node → finished w node.path ≡ true → m.rows.role node.kind ≢ Zone → v.set node.path ≡ Some (run_of m (reads m v) (answer_of m tells node) node).outputs
     old_rows node h e plain =
         grows.set node.path (run_of m (reads m w) (answer_of m tells node) node).outputs (s.rows node h e plain)
         ∙ ap (λ d. Some d.outputs) (sym (same_run m w v grows node (s.fed node h e) (answer_of m tells node)))
 
-    old_zones : (node : Node K V) → Has w.graph node → finished w node.path ≡ true → m.role node.kind ≡ Zone → v.opened node.path ≡ Some (result_links m (reads m v) node)
+    old_zones : (node : Node K V) → Has w.graph node → finished w node.path ≡ true → m.rows.role node.kind ≡ Zone → v.opened node.path ≡ Some (result_links m (reads m v) node)
     old_zones node h e zone = grows.opened node.path (result_links m (reads m w) node) (s.zones node h e zone) ∙ ap Some (sym (same_results w v grows node (s.fed node h e)))
 
-    old_turns : (zone node : Node K V) → Has w.graph zone → finished w zone.path ≡ true → m.role zone.kind ≡ Zone → Has (turn_nodes m (reads m v) zone) node → Has v.graph node
+    old_turns : (zone node : Node K V) → Has w.graph zone → finished w zone.path ≡ true → m.rows.role zone.kind ≡ Zone → Has (turn_nodes m (reads m v) zone) node → Has v.graph node
     old_turns zone node h e role has = node_stays m w v grows node (s.turns zone node h e role (subst (λ ns. Has ns node) (same_turns w v grows zone (s.fed zone h e)) has))
 
   -- what holds of the node that an event finishes
   record Here (w v : World K V) (node : Node K V) : Type 0 where
-    row : m.role node.kind ≢ Zone → v.set node.path ≡ Some (run_of m (reads m w) (answer_of m tells node) node).outputs
-    zone : m.role node.kind ≡ Zone → v.opened node.path ≡ Some (result_links m (reads m w) node)
-    turn : m.role node.kind ≡ Zone → (x : Node K V) → Has (turn_nodes m (reads m w) node) x → Has v.graph x
+    row : m.rows.role node.kind ≢ Zone → v.set node.path ≡ Some (run_of m (reads m w) (answer_of m tells node) node).outputs
+    zone : m.rows.role node.kind ≡ Zone → v.opened node.path ≡ Some (result_links m (reads m w) node)
+    turn : m.rows.role node.kind ≡ Zone → (x : Node K V) → Has (turn_nodes m (reads m w) node) x → Has v.graph x
 
   module _ (w v : World K V) (g : Shape m lawful task w) (g' : Shape m lawful task v) (grows : Grows m w v) (s : Solved w) (node : Node K V) (h : Has w.graph node) (fed : IsFed m lawful task w node) (here : Here w v node)
       (or_old : (x : Node K V) → Has v.graph x → finished v x.path ≡ true → (node.path ≡ x.path) ⊎ Has w.graph x × (finished w x.path ≡ true)) where
     is_node : (x : Node K V) → Has v.graph x → node.path ≡ x.path → node ≡ x
     is_node x k same = one_node v g' node x (node_stays m w v grows node h) k same
 
-    row_here : m.role node.kind ≢ Zone → v.set node.path ≡ Some (run_of m (reads m v) (answer_of m tells node) node).outputs
+    row_here : m.rows.role node.kind ≢ Zone → v.set node.path ≡ Some (run_of m (reads m v) (answer_of m tells node) node).outputs
     row_here plain = here.row plain ∙ ap (λ d. Some d.outputs) (sym (same_run m w v grows node fed (answer_of m tells node)))
 
-    zone_here : m.role node.kind ≡ Zone → v.opened node.path ≡ Some (result_links m (reads m v) node)
+    zone_here : m.rows.role node.kind ≡ Zone → v.opened node.path ≡ Some (result_links m (reads m v) node)
     zone_here zone = here.zone zone ∙ ap Some (sym (same_results w v grows node fed))
 
-    turn_here : m.role node.kind ≡ Zone → (x : Node K V) → Has (turn_nodes m (reads m v) node) x → Has v.graph x
+    turn_here : m.rows.role node.kind ≡ Zone → (x : Node K V) → Has (turn_nodes m (reads m v) node) x → Has v.graph x
     turn_here zone x has = here.turn zone x (subst (λ ns. Has ns x) (same_turns w v grows node fed) has)
 
-    solved_next : ((p : Path) (a : Answer) → v.answers p ≡ Some a → (x : Node K V) × Has v.graph x × (x.path ≡ p) × (m.role x.kind ≡ File) × (a ≡ tells x)) → Solved v
+    solved_next : ((p : Path) (a : Answer) → v.answers p ≡ Some a → (x : Node K V) × Has v.graph x × (x.path ≡ p) × (m.rows.role x.kind ≡ File) × (a ≡ tells x)) → Solved v
     solved_next answers = record {
       answers = answers;
       fed = λ x k f. elim (or_old x k f) [
@@ -100,15 +100,15 @@ module _ {K V S T : Type 0} (m : Meanings K V S T) (lawful : IsLawful m) (task :
         | inr old ↦ fed_stays m w v grows x (s.fed x old.0 old.1)
       ];
       rows = λ x k f. elim (or_old x k f) [
-        | inl same ↦ subst (λ y. m.role y.kind ≢ Zone → v.set y.path ≡ Some (run_of m (reads m v) (answer_of m tells y) y).outputs) (is_node x k same) row_here
+        | inl same ↦ subst (λ y. m.rows.role y.kind ≢ Zone → v.set y.path ≡ Some (run_of m (reads m v) (answer_of m tells y) y).outputs) (is_node x k same) row_here
         | inr old ↦ old_rows w v g g' grows s x old.0 old.1
       ];
       zones = λ x k f. elim (or_old x k f) [
-        | inl same ↦ subst (λ y. m.role y.kind ≡ Zone → v.opened y.path ≡ Some (result_links m (reads m v) y)) (is_node x k same) zone_here
+        | inl same ↦ subst (λ y. m.rows.role y.kind ≡ Zone → v.opened y.path ≡ Some (result_links m (reads m v) y)) (is_node x k same) zone_here
         | inr old ↦ old_zones w v g g' grows s x old.0 old.1
       ];
       turns = λ z x k f role has. elim (or_old z k f) [
-        | inl same ↦ subst (λ y. m.role y.kind ≡ Zone → Has (turn_nodes m (reads m v) y) x → Has v.graph x) (is_node z k same) (λ r q. turn_here r x q) role has
+        | inl same ↦ subst (λ y. m.rows.role y.kind ≡ Zone → Has (turn_nodes m (reads m v) y) x → Has v.graph x) (is_node z k same) (λ r q. turn_here r x q) role has
         | inr old ↦ old_turns w v g g' grows s z x old.0 old.1 role has
       ];
     }
@@ -134,7 +134,7 @@ module _ {K V S T : Type 0} (m : Meanings K V S T) (lawful : IsLawful m) (task :
   }
   solved_step w v f g' grows (Step.gives_outputs node h fed not plain answer e there) =
       let done : Done V = run_of m (reads m w) answer node in
-      let is : answer ≡ answer_of m tells node = answer_is w f.shape f.solved node h (m.role node.kind) refl answer e there in
+      let is : answer ≡ answer_of m tells node = answer_is w f.shape f.solved node h (m.rows.role node.kind) refl answer e there in
       solved_next w (with_outputs m w node (run_of m (reads m w) answer node)) f.shape g' grows f.solved node h fed
       (record {
         row = λ _. entry_here node.path (run_of m (reads m w) answer node).outputs w.set ∙ ap (λ o. Some (run_of m (reads m w) o node).outputs) is;
@@ -156,7 +156,7 @@ module _ {K V S T : Type 0} (m : Meanings K V S T) (lawful : IsLawful m) (task :
         | inr old ↦ inr (was_there x old (has_either w.graph (turn_nodes m (reads m w) zone) x k), old)
       ])
       (λ p a e.
-      let t : (x : Node K V) × Has w.graph x × (x.path ≡ p) × (m.role x.kind ≡ File) × (a ≡ tells x) = f.solved.answers p a e in
+      let t : (x : Node K V) × Has w.graph x × (x.path ≡ p) × (m.rows.role x.kind ≡ File) × (a ≡ tells x) = f.solved.answers p a e in
       (t.0, has_first w.graph (turn_nodes m (reads m w) zone) t.0 t.1, t.2, t.3, t.4))
     where
       was_there : (x : Node K V) → finished w x.path ≡ true → Has w.graph x ⊎ Has (turn_nodes m (reads m w) zone) x → Has w.graph x
@@ -267,11 +267,11 @@ module _ {K V S T : Type 0} (m : Meanings K V S T) (lawful : IsLawful m) (task :
     fits_fed : (node : Node K V) → NodeFits m [] before node → IsFed m lawful task w node
     fits_fed node fit link has =
         let s : (s : S) × LinkSort m [] before link s =
-        beside_of (LinkSort m [] before) node.links fit.sorts (links_beside m [] before node.links fit.sorts fit.links) link (selected_from (m.role node.kind) (m.choice node.kind (condition m (reads m w) node.links)) node.links link has) in
+        beside_of (LinkSort m [] before) node.links fit.sorts (links_beside m [] before node.links fit.sorts fit.links) link (selected_from (m.rows.role node.kind) (m.rows.choice node.kind (condition m (reads m w) node.links)) node.links link has) in
         source_set link.from s.1.0 s.1.1
 
   -- a node that is no zone
-  one_plain : (w : World K V) → Fine w → (node : Node K V) → Has w.graph node → IsFed m lawful task w node → finished w node.path ≡ false → m.role node.kind ≢ Zone → (answer : Option Answer) → w.answers node.path ≡ answer → is_some answer ≡ is_file (m.role node.kind) → Completed w (node ∷ [])
+  one_plain : (w : World K V) → Fine w → (node : Node K V) → Has w.graph node → IsFed m lawful task w node → finished w node.path ≡ false → m.rows.role node.kind ≢ Zone → (answer : Option Answer) → w.answers node.path ≡ answer → is_some answer ≡ is_file (m.rows.role node.kind) → Completed w (node ∷ [])
   one_plain w f node h fed not plain answer e there =
       let shut : w.opened node.path ≡ None = not_opened m lawful task w f.shape node.path not (w.opened node.path) refl in (
         with_outputs m w node (run_of m (reads m w) answer node),
@@ -291,7 +291,7 @@ module _ {K V S T : Type 0} (m : Meanings K V S T) (lawful : IsLawful m) (task :
       )
 
   -- an import, whose answer is served first
-  one_import : (w : World K V) → Fine w → (node : Node K V) → Has w.graph node → IsFed m lawful task w node → finished w node.path ≡ false → m.role node.kind ≡ File → (o : Option Answer) → w.answers node.path ≡ o → Completed w (node ∷ [])
+  one_import : (w : World K V) → Fine w → (node : Node K V) → Has w.graph node → IsFed m lawful task w node → finished w node.path ≡ false → m.rows.role node.kind ≡ File → (o : Option Answer) → w.answers node.path ≡ o → Completed w (node ∷ [])
   one_import w f node h fed not file (Some a) e = one_plain w f node h fed not (λ z. let bad : File ≡ Zone = sym file ∙ z in cc) (Some a) e (sym (ap is_file file))
   one_import w f node h fed not file None e =
       let v : World K V = record w { answers = with_entry node.path (tells node) w.answers } in
@@ -316,7 +316,7 @@ module _ {K V S T : Type 0} (m : Meanings K V S T) (lawful : IsLawful m) (task :
   differ_of_images g [] d = tt
   differ_of_images g (x ∷ xs) d = (λ h. d.0 (has_image g xs x h), differ_of_images g xs d.1)
 
-  module _ (h : ℕ) (all : FinishesAll h) (w : World K V) (f : Fine w) (before : List (Node K V)) (out : AllOut w before) (zone : Node K V) (fit : NodeFits m [] before zone) (k : Has w.graph zone) (not : finished w zone.path ≡ false) (less : m.height zone.kind < suc h) (role : m.role zone.kind ≡ Zone) where
+  module _ (h : ℕ) (all : FinishesAll h) (w : World K V) (f : Fine w) (before : List (Node K V)) (out : AllOut w before) (zone : Node K V) (fit : NodeFits m [] before zone) (k : Has w.graph zone) (not : finished w zone.path ≡ false) (less : m.height zone.kind < suc h) (role : m.rows.role zone.kind ≡ Zone) where
     abbrev turns : List (Node K V)
     turns = turn_nodes m (reads m w) zone
 
@@ -412,20 +412,20 @@ module _ {K V S T : Type 0} (m : Meanings K V S T) (lawful : IsLawful m) (task :
       },
     )
 
-  not_told : (w : World K V) → Fine w → (node : Node K V) → Has w.graph node → m.role node.kind ≢ File → (o : Option Answer) → w.answers node.path ≡ o → is_some o ≡ false
+  not_told : (w : World K V) → Fine w → (node : Node K V) → Has w.graph node → m.rows.role node.kind ≢ File → (o : Option Answer) → w.answers node.path ≡ o → is_some o ≡ false
   not_told w f node h other None e = refl
   not_told w f node h other (Some a) e =
-      let x : (x : Node K V) × Has w.graph x × (x.path ≡ node.path) × (m.role x.kind ≡ File) × (a ≡ tells x) = f.solved.answers node.path a e in
-      absurd (other (ap (λ y. m.role y.kind) (sym (one_node w f.shape x.0 node x.1 h x.2)) ∙ x.3))
+      let x : (x : Node K V) × Has w.graph x × (x.path ≡ node.path) × (m.rows.role x.kind ≡ File) × (a ≡ tells x) = f.solved.answers node.path a e in
+      absurd (other (ap (λ y. m.rows.role y.kind) (sym (one_node w f.shape x.0 node x.1 h x.2)) ∙ x.3))
 
   one : (h : ℕ) → FinishesOne h
   one zero w f before out node fit k not less = absurd (never_below (m.height node.kind) less)
     where
       never_below : (a : ℕ) → a < 0 → ⊥
       never_below a p = omega arith
-  one (suc h) w f before out node fit k not less = by_role (finishes_all h (one h)) (m.role node.kind) refl
+  one (suc h) w f before out node fit k not less = by_role (finishes_all h (one h)) (m.rows.role node.kind) refl
     where
-      by_role : FinishesAll h → (role : Role) → m.role node.kind ≡ role → Completed w (node ∷ [])
+      by_role : FinishesAll h → (role : Role) → m.rows.role node.kind ≡ role → Completed w (node ∷ [])
       by_role all Zone is = one_zone h all w f before out node fit k not less is
       by_role all File is = one_import w f node k (fits_fed w f before out node fit) not is (w.answers node.path) refl
       by_role all Plain is =

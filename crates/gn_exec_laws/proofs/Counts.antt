@@ -1,7 +1,7 @@
 -- Each node is taken and finished at most once, and what is set stays so.
 use Rattle.std.proofs.Common.{◌≡◌, inl, inr, ℕ, List, [], ◌∷◌, sym, ◌∙◌, ap, subst}
-use Rattle.gn_exec_laws.specs.Meanings.{Has, Meanings}
-use Rattle.gn_exec_laws.specs.Graphs.{Task, AllDiffer}
+use Rattle.gn_node_set.specs.Meanings.{Has, Meanings, AllDiffer}
+use Rattle.gn_exec_laws.specs.Graphs.{Task}
 use Rattle.gn_exec_laws.specs.Fits.{CanStart, IsLawful}
 use Rattle.gn_exec_laws.specs.Machine.{Event, Take, Finish, Serve, Refuse, world, Allowed, IsRun}
 use Rattle.gn_exec_laws.specs.Claims.{takes, finishes, TakesOnce, TagsAgree}
@@ -25,7 +25,7 @@ was_finished (Take v k ∷ es) n h = let t : (v : ℕ) × Has es (Finish v n) = 
 was_finished (Serve k a ∷ es) n h = let t : (v : ℕ) × Has es (Finish v n) = was_finished es n h in (t.0, inr t.1)
 was_finished (Refuse v ∷ es) n h = let t : (v : ℕ) × Has es (Finish v n) = was_finished es n h in (t.0, inr t.1)
 
-worker_of : Event → ℕ
+unfoldable pub worker_of : Event → ℕ
 worker_of (Take v n) = v
 worker_of (Finish v n) = v
 worker_of (Serve n a) = 0

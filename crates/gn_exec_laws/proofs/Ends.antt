@@ -1,14 +1,14 @@
 -- Where nothing may happen any more, all that is demanded is set, and the events are counted.
 use Rattle.std.proofs.Common.{◌≡◌, ◌≢◌, ◌⊎◌, inl, inr, ◌<◌, ◌≤◌, ◌+◌, ℕ, zero, suc, length, List, [], ◌∷◌, Option, Some, None, Bool, true, false, refl, sym, ◌∙◌, ap, subst, arith}
 use Rattle.std.specs.Prelude.{is_some, if◌then◌else◌, slice_get}
-use Rattle.gn_exec_laws.specs.Paths.{Path}
-use Rattle.gn_exec_laws.specs.Meanings.{Has, Source, a_value, an_item, an_output, Link, Node, Role, Plain, Switch, File, Zone, Answer, Absent, Meanings}
-use Rattle.gn_exec_laws.specs.Graphs.{Task, AllDiffer, link_value, links_read, result_links, Answers, Unfolded, Solves, Brought, Wanted, Demanded, ListsDemand, condition}
+use Rattle.gn_node_set.specs.Paths.{Path}
+use Rattle.gn_node_set.specs.Meanings.{Has, Source, a_value, an_item, an_output, Link, Node, Role, Plain, Switch, File, Zone, Answer, Absent, Meanings, AllDiffer}
+use Rattle.gn_exec_laws.specs.Graphs.{Task, link_value, links_read, result_links, Answers, Unfolded, Solves, Brought, Wanted, Demanded, ListsDemand, condition}
 use Rattle.gn_exec_laws.specs.Fits.{is_file, SourceSort, LinkSort, LinkSorts, CanStart, IsLawful}
 use Rattle.gn_exec_laws.specs.Machine.{Event, Take, Finish, Serve, Refuse, World, finished, is_there, is_set, finish_by_role, finish_node, serve_node, world, sure, Reached, Used, IsRun, IsServed, condition_set, sure_as, possible_as, possible, reads}
 use Rattle.gn_exec_laws.specs.Claims.{takes, finishes, serves, IsOver, with_node, numbered, taken_nodes, imports_of, EndsWell}
-use Rattle.gn_exec_laws.proofs.Lists.{some_same, held, not_both, member_at, place_of, known_by, one_place}
-use Rattle.gn_exec_laws.proofs.Paths.{entry_here, entry_is}
+use Rattle.gn_node_set.proofs.Lists.{some_same, held, not_both, member_at, place_of, known_by, one_place}
+use Rattle.gn_node_set.proofs.Paths.{entry_here, entry_is}
 use Rattle.gn_exec_laws.proofs.Sorts.{beside_at, links_beside}
 use Rattle.gn_exec_laws.proofs.Shapes.{IsDone}
 use Rattle.gn_exec_laws.proofs.Kept.{Grows, Kept, kept, IsTakenWell, IsFinished, WasFinished, sure_read, number_of, used_stays}
@@ -119,19 +119,19 @@ module _ {K V S T : Type 0} (m : Meanings K V S T) (lawful : IsLawful m) (task :
 
   -- ---- imports
 
-  import_in : (nodes : List (Node K V)) (node : Node K V) → Has (imports_of m nodes) node → Has nodes node × (is_file (m.role node.kind) ≡ true)
+  import_in : (nodes : List (Node K V)) (node : Node K V) → Has (imports_of m nodes) node → Has nodes node × (is_file (m.rows.role node.kind) ≡ true)
   import_in [] node h = absurd h
-  import_in (x ∷ nodes) node h = by_file (is_file (m.role x.kind)) refl h (import_in nodes node)
+  import_in (x ∷ nodes) node h = by_file (is_file (m.rows.role x.kind)) refl h (import_in nodes node)
     where
-      by_file : (b : Bool) → is_file (m.role x.kind) ≡ b → Has (if b then x ∷ imports_of m nodes else imports_of m nodes) node → (Has (imports_of m nodes) node → Has nodes node × (is_file (m.role node.kind) ≡ true)) → Has (x ∷ nodes) node × (is_file (m.role node.kind) ≡ true)
-      by_file true e (inl q) rest = (inl q, ap (λ n. is_file (m.role n.kind)) q ∙ e)
+      by_file : (b : Bool) → is_file (m.rows.role x.kind) ≡ b → Has (if b then x ∷ imports_of m nodes else imports_of m nodes) node → (Has (imports_of m nodes) node → Has nodes node × (is_file (m.rows.role node.kind) ≡ true)) → Has (x ∷ nodes) node × (is_file (m.rows.role node.kind) ≡ true)
+      by_file true e (inl q) rest = (inl q, ap (λ n. is_file (m.rows.role n.kind)) q ∙ e)
       by_file true e (inr k) rest = (inr (rest k).0, (rest k).1)
       by_file false e k rest = (inr (rest k).0, (rest k).1)
 
-  in_imports : (nodes : List (Node K V)) (node : Node K V) → Has nodes node → is_file (m.role node.kind) ≡ true → Has (imports_of m nodes) node
+  in_imports : (nodes : List (Node K V)) (node : Node K V) → Has nodes node → is_file (m.rows.role node.kind) ≡ true → Has (imports_of m nodes) node
   in_imports [] node h f = absurd h
-  in_imports (x ∷ nodes) node (inl q) f = subst (λ b. Has (if b then x ∷ imports_of m nodes else imports_of m nodes) node) (sym (ap (λ n. is_file (m.role n.kind)) (sym q) ∙ f)) (inl q)
-  in_imports (x ∷ nodes) node (inr h) f = by_file (is_file (m.role x.kind)) (in_imports nodes node h f)
+  in_imports (x ∷ nodes) node (inl q) f = subst (λ b. Has (if b then x ∷ imports_of m nodes else imports_of m nodes) node) (sym (ap (λ n. is_file (m.rows.role n.kind)) (sym q) ∙ f)) (inl q)
+  in_imports (x ∷ nodes) node (inr h) f = by_file (is_file (m.rows.role x.kind)) (in_imports nodes node h f)
     where
       by_file : (b : Bool) → Has (imports_of m nodes) node → Has (if b then x ∷ imports_of m nodes else imports_of m nodes) node
       by_file true k = inr k
@@ -139,7 +139,7 @@ module _ {K V S T : Type 0} (m : Meanings K V S T) (lawful : IsLawful m) (task :
 
   imports_differ : (nodes : List (Node K V)) → AllDiffer nodes → AllDiffer (imports_of m nodes)
   imports_differ [] d = tt
-  imports_differ (x ∷ nodes) d = by_file (is_file (m.role x.kind)) (imports_differ nodes d.1)
+  imports_differ (x ∷ nodes) d = by_file (is_file (m.rows.role x.kind)) (imports_differ nodes d.1)
     where
       by_file : (b : Bool) → AllDiffer (imports_of m nodes) → AllDiffer (if b then x ∷ imports_of m nodes else imports_of m nodes)
       by_file true r = (λ h. d.0 (import_in nodes x h).0, r)
@@ -148,7 +148,7 @@ module _ {K V S T : Type 0} (m : Meanings K V S T) (lawful : IsLawful m) (task :
   -- ---- imports that are served
 
   abbrev pub IsServedAt : World K V → ℕ → Type 0
-  IsServedAt w n = (node : Node K V) × (slice_get w.graph n ≡ Some node) × (m.role node.kind ≡ File) × ((a : Answer) × (w.answers node.path ≡ Some a)) × Used m task w node
+  IsServedAt w n = (node : Node K V) × (slice_get w.graph n ≡ Some node) × (m.rows.role node.kind ≡ File) × ((a : Answer) × (w.answers node.path ≡ Some a)) × Used m task w node
 
   served_stays : (w v : World K V) → Grows m w v → (n : ℕ) → IsServedAt w n → IsServedAt v n
   served_stays w v grows n t = (t.0, grows.graph n t.0 t.1, t.2, (t.3.0, grows.answers t.0.path t.3.0 t.3.1), used_stays m w v grows task t.0 t.4)
@@ -186,9 +186,9 @@ module _ {K V S T : Type 0} (m : Meanings K V S T) (lawful : IsLawful m) (task :
     serves_differ (Finish v n ∷ es) r = serves_differ es r.1
     serves_differ (Refuse v ∷ es) r = serves_differ es r.1
 
-    finish_tells : (w : World K V) (o : Option (Node K V)) → (finish_node m w o).answers ≡ w.answers
+    pub finish_tells : (w : World K V) (o : Option (Node K V)) → (finish_node m w o).answers ≡ w.answers
     finish_tells w None = refl
-    finish_tells w (Some node) = by_role (m.role node.kind)
+    finish_tells w (Some node) = by_role (m.rows.role node.kind)
       where
         by_role : (role : Role) → (finish_by_role m role w node).answers ≡ w.answers
         by_role Plain = refl
@@ -196,10 +196,10 @@ module _ {K V S T : Type 0} (m : Meanings K V S T) (lawful : IsLawful m) (task :
         by_role File = refl
         by_role Zone = refl
 
-    abbrev WasServed : List Event → World K V → Path → Type 0
+    abbrev pub WasServed : List Event → World K V → Path → Type 0
     WasServed es w p = (n : ℕ) × (node : Node K V) × Has (serves es) n × (slice_get w.graph n ≡ Some node) × (node.path ≡ p)
 
-    was_served : (es : List Event) → IsRun m task es → (p : Path) (a : Answer) → (W es).answers p ≡ Some a → WasServed es (W es) p
+    pub was_served : (es : List Event) → IsRun m task es → (p : Path) (a : Answer) → (W es).answers p ≡ Some a → WasServed es (W es) p
     was_served [] r p a e = cc
     was_served (Take v k ∷ es) r p a e = was_served es r.1 p a e
     was_served (Refuse v ∷ es) r p a e = was_served es r.1 p a e
@@ -235,7 +235,7 @@ module _ {K V S T : Type 0} (m : Meanings K V S T) (lawful : IsLawful m) (task :
       finished_node : (n : ℕ) (node : Node K V) → slice_get w.graph n ≡ Some node → Used m task w node → ((link : Link V) → Has (sure m w node) link → is_set w link.from ≡ true) → (v : ℕ) × Has es (Finish v n)
       finished_node n node at used inputs = elim (find_finish es n) [ inl t ↦ t | inr open' ↦ absurd (by_take open' (find_take es n)) ]
         where
-          by_answer : ((v : ℕ) → ¬ Has es (Take v n)) → (o : Option Answer) → w.answers node.path ≡ o → (role : Role) → m.role node.kind ≡ role → ⊥
+          by_answer : ((v : ℕ) → ¬ Has es (Take v n)) → (o : Option Answer) → w.answers node.path ≡ o → (role : Role) → m.rows.role node.kind ≡ role → ⊥
           by_answer fresh None e File is = over.no_serve n Absent ((node, record { there = at; used = used; file = is; no_answer = e }), over.none_refused)
           by_answer fresh (Some a) e role is = over.no_take 0 n ((node, record { there = at; used = used; fresh = fresh; inputs = inputs; answered = λ _. (a, e) }), over.none_refused)
           by_answer fresh None e Plain is = over.no_take 0 n ((node, record { there = at; used = used; fresh = fresh; inputs = inputs; answered = λ file. let bad : Plain ≡ File = sym is ∙ file in cc }), over.none_refused)
@@ -244,7 +244,7 @@ module _ {K V S T : Type 0} (m : Meanings K V S T) (lawful : IsLawful m) (task :
 
           by_take : ((v : ℕ) → ¬ Has es (Finish v n)) → ((v : ℕ) × Has es (Take v n)) ⊎ ((v : ℕ) → ¬ Has es (Take v n)) → ⊥
           by_take open' (inl t) = over.no_finish t.0 n (t.1, open')
-          by_take open' (inr fresh) = by_answer fresh (w.answers node.path) refl (m.role node.kind) refl
+          by_take open' (inr fresh) = by_answer fresh (w.answers node.path) refl (m.rows.role node.kind) refl
 
       height : Source V → ℕ
       height (an_output p j) = suc (order.rank p)
@@ -266,39 +266,39 @@ module _ {K V S T : Type 0} (m : Meanings K V S T) (lawful : IsLawful m) (task :
       one_node x y h i e = known_by (λ n. n.path) w.graph k.shape.differ x y h i e
 
       -- only a zone is opened
-      plain_shut : (node : Node K V) → Has w.graph node → m.role node.kind ≢ Zone → (o : Option (List (Link V))) → w.opened node.path ≡ o → w.opened node.path ≡ None
+      plain_shut : (node : Node K V) → Has w.graph node → m.rows.role node.kind ≢ Zone → (o : Option (List (Link V))) → w.opened node.path ≡ o → w.opened node.path ≡ None
       plain_shut node h plain None e = e
       plain_shut node h plain (Some outs) e =
-          let z : (z : Node K V) × Has w.graph z × (z.path ≡ node.path) × (m.role z.kind ≡ Zone) × LinkSorts m [] w.graph outs (m.gives z.kind) = k.shape.opened node.path outs e in
-          absurd (plain (ap (λ n. m.role n.kind) (sym (one_node z.0 node z.1 h z.2)) ∙ z.3))
+          let z : (z : Node K V) × Has w.graph z × (z.path ≡ node.path) × (m.rows.role z.kind ≡ Zone) × LinkSorts m [] w.graph outs (m.gives z.kind) = k.shape.opened node.path outs e in
+          absurd (plain (ap (λ n. m.rows.role n.kind) (sym (one_node z.0 node z.1 h z.2)) ∙ z.3))
 
-      done_node : (node : Node K V) → Has w.graph node → (n : ℕ) → slice_get w.graph n ≡ Some node → (v : ℕ) → Has es (Finish v n) → (m.role node.kind ≢ Zone → is_some (w.set node.path) ≡ true) × (m.role node.kind ≡ Zone → is_some (w.opened node.path) ≡ true)
+      done_node : (node : Node K V) → Has w.graph node → (n : ℕ) → slice_get w.graph n ≡ Some node → (v : ℕ) → Has es (Finish v n) → (m.rows.role node.kind ≢ Zone → is_some (w.set node.path) ≡ true) × (m.rows.role node.kind ≡ Zone → is_some (w.opened node.path) ≡ true)
       done_node node h n at v f =
           let x : IsFinished m lawful task w n = k.finishes v n f in
           let same : x.0 ≡ node = some_same (sym x.1 ∙ at) in
           let d : IsDone m lawful task w node.path = k.shape.done node.path (subst (λ y. finished w y.path ≡ true) same x.2) in
           let is : d.0 ≡ node = one_node d.0 node d.1 h d.2 in
-          (λ plain. d.3 (λ zone. plain (ap (λ y. m.role y.kind) (sym is) ∙ zone)), λ zone. d.4 (ap (λ y. m.role y.kind) is ∙ zone))
+          (λ plain. d.3 (λ zone. plain (ap (λ y. m.rows.role y.kind) (sym is) ∙ zone)), λ zone. d.4 (ap (λ y. m.rows.role y.kind) is ∙ zone))
 
       -- an output of a finished node is set, where those below it are
       output_set : (node : Node K V) → Has w.graph node → (n : ℕ) → slice_get w.graph n ≡ Some node → (v : ℕ) → Has es (Finish v n) → (j : ℕ) (t : S) → slice_get (m.gives node.kind) j ≡ Some t → Reaches (an_output node.path j)
-          → ((y : Source V) → height y ≤ order.rank node.path → Reaches y → is_set w y ≡ true) → (role : Role) → m.role node.kind ≡ role → is_set w (an_output node.path j) ≡ true
+          → ((y : Source V) → height y ≤ order.rank node.path → Reaches y → is_set w y ≡ true) → (role : Role) → m.rows.role node.kind ≡ role → is_set w (an_output node.path j) ≡ true
       output_set node h n at v f j t gives d below role is = by_role role is
         where
-          plain_set : m.role node.kind ≢ Zone → is_set w (an_output node.path j) ≡ true
+          plain_set : m.rows.role node.kind ≢ Zone → is_set w (an_output node.path j) ≡ true
           plain_set plain = ap (λ l. is_there w l.from) (k.shape.shut node.path j (plain_shut node h plain (w.opened node.path) refl)) ∙ (done_node node h n at v f).0 plain
 
-          zone_set : m.role node.kind ≡ Zone → is_set w (an_output node.path j) ≡ true
+          zone_set : m.rows.role node.kind ≡ Zone → is_set w (an_output node.path j) ≡ true
           zone_set zone =
               let outs : (outs : List (Link V)) × (w.opened node.path ≡ Some outs) = held (w.opened node.path) ((done_node node h n at v f).1 zone) in
-              let z : (z : Node K V) × Has w.graph z × (z.path ≡ node.path) × (m.role z.kind ≡ Zone) × LinkSorts m [] w.graph outs.0 (m.gives z.kind) = k.shape.opened node.path outs.0 outs.1 in
+              let z : (z : Node K V) × Has w.graph z × (z.path ≡ node.path) × (m.rows.role z.kind ≡ Zone) × LinkSorts m [] w.graph outs.0 (m.gives z.kind) = k.shape.opened node.path outs.0 outs.1 in
               let same : z.0 ≡ node = one_node z.0 node z.1 h z.2 in
               let link : (link : Link V) × (slice_get outs.0 j ≡ Some link) × LinkSort m [] w.graph link t =
               beside_at (LinkSort m [] w.graph) outs.0 (m.gives z.0.kind) (links_beside m [] w.graph outs.0 (m.gives z.0.kind) z.4) j t (ap (λ y. slice_get (m.gives y.kind) j) same ∙ gives) in
               ap (λ l. is_there w l.from) (order.opens node.path j outs.0 link.0 outs.1 link.1)
               ∙ below link.0.from (out_height node.path outs.0 link.0 outs.1 (member_at outs.0 j link.0 link.1) link.0.from refl) (Reached.a_result node.path j outs.0 link.0 outs.1 d link.1)
 
-          by_role : (role : Role) → m.role node.kind ≡ role → is_set w (an_output node.path j) ≡ true
+          by_role : (role : Role) → m.rows.role node.kind ≡ role → is_set w (an_output node.path j) ≡ true
           by_role Zone is = zone_set is
           by_role Plain is = plain_set (λ z. let bad : Plain ≡ Zone = sym is ∙ z in cc)
           by_role Switch is = plain_set (λ z. let bad : Switch ≡ Zone = sym is ∙ z in cc)
@@ -324,7 +324,7 @@ module _ {K V S T : Type 0} (m : Meanings K V S T) (lawful : IsLawful m) (task :
           let most : height link.from ≤ order.rank t.1.0.path = link_height t.1.0 link t.1.1 (sure_linked m lawful task w t.1.0 link has) link.from refl in
           set_by_rank b link.from (omega arith) (Reached.an_input t.1.0 j link t.1.1 used has)) in
           subst (λ q. is_set w (an_output q j) ≡ true) t.1.2
-          (output_set t.1.0 t.1.1 n.0 n.1 f.0 f.1 j t.0 t.1.3 used (λ y most reached. set_by_rank b y (omega arith) reached) (m.role t.1.0.kind) refl)
+          (output_set t.1.0 t.1.1 n.0 n.1 f.0 f.1 j t.0 t.1.3 used (λ y most reached. set_by_rank b y (omega arith) reached) (m.rows.role t.1.0.kind) refl)
 
       pub used_is_set : (x : Source V) → Reaches x → is_set w x ≡ true
       used_is_set x d = set_by_rank (suc (height x)) x (omega arith) d
@@ -333,34 +333,34 @@ module _ {K V S T : Type 0} (m : Meanings K V S T) (lawful : IsLawful m) (task :
       sure_set node h u link has = used_is_set link.from (Reached.an_input node u.0 link h u.1 has)
 
       -- what a used node may read it is sure to read
-      possible_as_sure : (node : Node K V) → Has w.graph node → Used m task w node → (role : Role) → m.role node.kind ≡ role → (links : List (Link V))
-          → ((link : Link V) → Has (sure_as m role (condition_set m w links) (m.choice node.kind (condition m (reads m w) links)) links) link → is_set w link.from ≡ true)
-          → (link : Link V) → Has (possible_as m role (condition_set m w links) (is_some (w.opened node.path)) (m.choice node.kind (condition m (reads m w) links)) links) link
-          → Has (sure_as m role (condition_set m w links) (m.choice node.kind (condition m (reads m w) links)) links) link
+      possible_as_sure : (node : Node K V) → Has w.graph node → Used m task w node → (role : Role) → m.rows.role node.kind ≡ role → (links : List (Link V))
+          → ((link : Link V) → Has (sure_as m role (condition_set m w links) (m.rows.choice node.kind (condition m (reads m w) links)) links) link → is_set w link.from ≡ true)
+          → (link : Link V) → Has (possible_as m role (condition_set m w links) (is_some (w.opened node.path)) (m.rows.choice node.kind (condition m (reads m w) links)) links) link
+          → Has (sure_as m role (condition_set m w links) (m.rows.choice node.kind (condition m (reads m w) links)) links) link
       possible_as_sure node h u Plain is links sets link has = has
       possible_as_sure node h u File is links sets link has = has
       possible_as_sure node h u Zone is links sets link has =
           let n : (n : ℕ) × (slice_get w.graph n ≡ Some node) = place_of w.graph node h in
           let f : (v : ℕ) × Has es (Finish v n.0) = finished_node n.0 node n.1 u (sure_set node h u) in
-          subst (λ b. Has (possible_as m Zone (condition_set m w links) b (m.choice node.kind (condition m (reads m w) links)) links) link) ((done_node node h n.0 n.1 f.0 f.1).1 is) has
+          subst (λ b. Has (possible_as m Zone (condition_set m w links) b (m.rows.choice node.kind (condition m (reads m w) links)) links) link) ((done_node node h n.0 n.1 f.0 f.1).1 is) has
       possible_as_sure node h u Switch is [] sets link has = has
       possible_as_sure node h u Switch is (first ∷ links) sets link has = by_set (is_set w first.from) refl
         where
-          first_in : (b : Bool) → Has (sure_as m Switch b (m.choice node.kind (reads m w first)) (first ∷ links)) first
+          first_in : (b : Bool) → Has (sure_as m Switch b (m.rows.choice node.kind (reads m w first)) (first ∷ links)) first
           first_in true = inl refl
           first_in false = inl refl
 
-          by_set : (b : Bool) → is_set w first.from ≡ b → Has (sure_as m Switch (is_set w first.from) (m.choice node.kind (reads m w first)) (first ∷ links)) link
+          by_set : (b : Bool) → is_set w first.from ≡ b → Has (sure_as m Switch (is_set w first.from) (m.rows.choice node.kind (reads m w first)) (first ∷ links)) link
           by_set true e =
-              subst (λ b. Has (sure_as m Switch b (m.choice node.kind (reads m w first)) (first ∷ links)) link) (sym e)
-              (subst (λ b. Has (possible_as m Switch b (is_some (w.opened node.path)) (m.choice node.kind (reads m w first)) (first ∷ links)) link) e has)
+              subst (λ b. Has (sure_as m Switch b (m.rows.choice node.kind (reads m w first)) (first ∷ links)) link) (sym e)
+              (subst (λ b. Has (possible_as m Switch b (is_some (w.opened node.path)) (m.rows.choice node.kind (reads m w first)) (first ∷ links)) link) e has)
           by_set false e = let bad : true ≡ false = sym (sets first (first_in (is_set w first.from))) ∙ e in cc
 
       possible_reached : (x : Source V) → Reached m task w (possible m w) x → Reaches x
       possible_reached x (Reached.a_root link h) = Reached.a_root link h
       possible_reached x (Reached.an_input node s link h d has) =
           let u : Reaches (an_output node.path s) = possible_reached (an_output node.path s) d in
-          Reached.an_input node s link h u (possible_as_sure node h (s, u) (m.role node.kind) refl node.links (sure_set node h (s, u)) link has)
+          Reached.an_input node s link h u (possible_as_sure node h (s, u) (m.rows.role node.kind) refl node.links (sure_set node h (s, u)) link has)
       possible_reached x (Reached.a_result p s outs link is d at) = Reached.a_result p s outs link is (possible_reached (an_output p s) d) at
 
       used_finished : (n : ℕ) (node : Node K V) → slice_get w.graph n ≡ Some node → Used m task w node → Has (finishes es) n
@@ -389,7 +389,7 @@ module _ {K V S T : Type 0} (m : Meanings K V S T) (lawful : IsLawful m) (task :
           let s : IsServedAt w n.0 = served_at es r n.0 n.1 in
           let same : s.0 ≡ node = some_same (sym s.1 ∙ n.2) in
           let f : Has (finishes es) n.0 = used_finished n.0 s.0 s.1 s.4 in
-          in_imports taken node (number_numbered w.graph (takes es) n.0 node (finished_taken n.0 f) n.2) (ap (λ x. is_file (m.role x.kind)) (sym same) ∙ ap is_file s.2)
+          in_imports taken node (number_numbered w.graph (takes es) n.0 node (finished_taken n.0 f) n.2) (ap (λ x. is_file (m.rows.role x.kind)) (sym same) ∙ ap is_file s.2)
 
       file_role : (role : Role) → is_file role ≡ true → role ≡ File
       file_role File e = refl
@@ -399,11 +399,11 @@ module _ {K V S T : Type 0} (m : Meanings K V S T) (lawful : IsLawful m) (task :
 
       imports_served : (node : Node K V) → Has (imports_of m taken) node → Has (numbered m w.graph (serves es)) node
       imports_served node h =
-          let x : Has taken node × (is_file (m.role node.kind) ≡ true) = import_in taken node h in
+          let x : Has taken node × (is_file (m.rows.role node.kind) ≡ true) = import_in taken node h in
           let n : (n : ℕ) × Has (takes es) n × (slice_get w.graph n ≡ Some node) = numbered_number w.graph (takes es) node x.0 in
           let t : IsTakenWell m lawful task w n.0 = taken_well n.0 n.1 in
           let same : t.0 ≡ node = some_same (sym t.1 ∙ n.2) in
-          let a : (a : Answer) × (w.answers t.0.path ≡ Some a) = t.3 (ap (λ y. m.role y.kind) same ∙ file_role (m.role node.kind) x.1) in
+          let a : (a : Answer) × (w.answers t.0.path ≡ Some a) = t.3 (ap (λ y. m.rows.role y.kind) same ∙ file_role (m.rows.role node.kind) x.1) in
           let s : WasServed es w t.0.path = was_served es r t.0.path a.0 a.1 in
           let is : s.1 ≡ node = one_node s.1 node (member_at w.graph s.0 s.1 s.3) (member_at w.graph n.0 node n.2) (s.4 ∙ ap (λ y. y.path) same) in
           number_numbered w.graph (serves es) s.0 node s.2 (s.3 ∙ ap Some is)
@@ -438,13 +438,13 @@ module _ {K V S T : Type 0} (m : Meanings K V S T) (lawful : IsLawful m) (task :
             (sym (sure_read m lawful task w node (sure_set node h u) ∙ read_by_right m lawful task c tells den w correct node (λ l l_in. sure_set node h u l (subst (λ ls. Has ls l) (sym (sure_read m lawful task w node (sure_set node h u))) l_in)))) has
 
         -- a used zone is opened, and its outputs come from where the equations say
-        used_opened : (node : Node K V) → Is node → (h : Has w.graph node) → Used m task w node → m.role node.kind ≡ Zone → w.opened node.path ≡ Some (result_links m (link_value m den) node)
+        used_opened : (node : Node K V) → Is node → (h : Has w.graph node) → Used m task w node → m.rows.role node.kind ≡ Zone → w.opened node.path ≡ Some (result_links m (link_value m den) node)
         used_opened node is h u role =
             let n : (n : ℕ) × (slice_get w.graph n ≡ Some node) = place_of w.graph node h in
             let f : (v : ℕ) × Has es (Finish v n.0) = finished_node n.0 node n.1 u (sure_set node h u) in
             by_outs (held (w.opened node.path) ((done_node node h n.0 n.1 f.0 f.1).1 role))
           where
-            by_zone : (outs : List (Link V)) → w.opened node.path ≡ Some outs → (z : Node K V) × Is z × (z.path ≡ node.path) × (m.role z.kind ≡ Zone) × (outs ≡ result_links m (link_value m den) z) → w.opened node.path ≡ Some (result_links m (link_value m den) node)
+            by_zone : (outs : List (Link V)) → w.opened node.path ≡ Some outs → (z : Node K V) × Is z × (z.path ≡ node.path) × (m.rows.role z.kind ≡ Zone) × (outs ≡ result_links m (link_value m den) z) → w.opened node.path ≡ Some (result_links m (link_value m den) node)
             by_zone outs e z = subst (λ y. w.opened node.path ≡ Some (result_links m (link_value m den) y)) (one_there m lawful task c tells den z.0 node z.1 is z.2) (subst (λ os. w.opened node.path ≡ Some os) z.4 e)
 
             by_outs : (outs : List (Link V)) × (w.opened node.path ≡ Some outs) → w.opened node.path ≡ Some (result_links m (link_value m den) node)

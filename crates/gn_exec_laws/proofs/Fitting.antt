@@ -1,11 +1,11 @@
 -- What is in a world fits, and what a worker takes keeps the conditions of a run.
 use Rattle.std.proofs.Common.{◌≡◌, ◌≢◌, ℕ, List, [], ◌∷◌, map, Bool, true, false, refl, subst}
-use Rattle.gn_exec_laws.specs.Meanings.{Has, Node, Zone, Meanings}
+use Rattle.gn_node_set.specs.Meanings.{Has, Node, Zone, Meanings}
 use Rattle.gn_exec_laws.specs.Graphs.{Task, links_read, opened_by, outer_node}
 use Rattle.gn_exec_laws.specs.Fits.{NodesFit, CanStart, CanRun, OpensWell, IsLawful}
 use Rattle.gn_exec_laws.specs.Machine.{Event, Finish, World, finished, reads, world, Ready, IsRun}
 use Rattle.gn_exec_laws.specs.Claims.{WorldFits}
-use Rattle.gn_exec_laws.proofs.Lists.{append_nil, member_at, one_place}
+use Rattle.gn_node_set.proofs.Lists.{append_nil, member_at, one_place}
 use Rattle.gn_exec_laws.proofs.Sorts.{outer_nodes_fit, fit_joined}
 use Rattle.gn_exec_laws.proofs.Shapes.{Shape, link_read, can_run}
 use Rattle.gn_exec_laws.proofs.Kept.{Kept, kept, Step, AnyAnswer, step_of, zone_well, answer_there, fed_of, WasFinished}
@@ -34,7 +34,7 @@ module _ {K V S T : Type 0} (m : Meanings K V S T) (lawful : IsLawful m) (task :
       record {
         nodes = nodes_fit c es r;
         ends = g.ends;
-        set = λ p vs e. let t : (node : Node K V) × Has (world m task es).graph node × (node.path ≡ p) × (m.role node.kind ≢ Zone) × (map m.sort vs ≡ m.gives node.kind) = g.set p vs e in (t.0, t.1, t.2, t.4);
+        set = λ p vs e. let t : (node : Node K V) × Has (world m task es).graph node × (node.path ≡ p) × (m.rows.role node.kind ≢ Zone) × (map m.sort vs ≡ m.gives node.kind) = g.set p vs e in (t.0, t.1, t.2, t.4);
         reads = λ link s sort set. (link_read m lawful task (world m task es) g link s sort set).0;
       }
 
@@ -54,4 +54,4 @@ module _ {K V S T : Type 0} (m : Meanings K V S T) (lawful : IsLawful m) (task :
       let h : Has (world m task es).graph node = member_at (world m task es).graph n node ready.there in
       can_run m lawful task (world m task es) k.shape node h (fed_of m lawful task (world m task es) node ready.inputs)
       (untaken es r k n node ready (finished (world m task es) node.path) refl) ((world m task es).answers node.path)
-      (answer_there m lawful task (world m task es) k.shape node h ready.answered (m.role node.kind) refl ((world m task es).answers node.path) refl)
+      (answer_there m lawful task (world m task es) k.shape node h ready.answered (m.rows.role node.kind) refl ((world m task es).answers node.path) refl)

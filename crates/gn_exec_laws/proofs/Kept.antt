@@ -1,13 +1,13 @@
 -- What an event doesn't change, and what holds after every list of events that may come.
 use Rattle.std.proofs.Common.{◌≡◌, ◌≢◌, ◌⊎◌, inl, inr, ℕ, List, [], ◌∷◌, ◌++◌, map, Option, Some, None, Bool, true, false, refl, sym, ◌∙◌, ap, subst}
 use Rattle.std.specs.Prelude.{is_some, unwrap_or, if◌then◌else◌, slice_get, slice_index_or}
-use Rattle.gn_exec_laws.specs.Paths.{Path, with_entry}
-use Rattle.gn_exec_laws.specs.Meanings.{Has, Source, a_value, an_item, an_output, Link, plain_link, along, Node, Role, Plain, Switch, File, Zone, Answer, Warning, Done, Meanings}
-use Rattle.gn_exec_laws.specs.Graphs.{Task, chosen, selected, converted, source_value, link_value, condition, links_read, run_of, opened_by, turn_nodes, result_links}
+use Rattle.gn_node_set.specs.Paths.{Path, with_entry}
+use Rattle.gn_node_set.specs.Meanings.{Has, Source, a_value, an_item, an_output, Link, plain_link, along, Node, Role, Plain, Switch, File, Zone, Answer, Warning, Done, Meanings, chosen, selected, converted}
+use Rattle.gn_exec_laws.specs.Graphs.{Task, source_value, link_value, condition, links_read, run_of, opened_by, turn_nodes, result_links}
 use Rattle.gn_exec_laws.specs.Fits.{is_file, NodeFits, CanStart, OpensWell, IsLawful}
 use Rattle.gn_exec_laws.specs.Machine.{Event, Take, Finish, Serve, Refuse, World, finished, link_now, is_there, is_set, set_outputs, reads, led_on, with_outputs, with_turns, finish_by_role, finish_node, serve_node, world, condition_set, sure_as, sure, Reached, Used, Allowed, IsRun}
-use Rattle.gn_exec_laws.proofs.Lists.{held, not_both, member_at, place_of, same_place, known_by, one_place}
-use Rattle.gn_exec_laws.proofs.Paths.{by_path, entry_keeps}
+use Rattle.gn_node_set.proofs.Lists.{held, not_held, not_both, member_at, place_of, same_place, known_by, one_place}
+use Rattle.gn_node_set.proofs.Paths.{by_path, entry_keeps}
 use Rattle.gn_exec_laws.proofs.Shapes.{Shape, IsFed, can_run, shape_start, shape_outputs, shape_answer, shape_turns, not_set, not_opened}
 
 -- ---- what an event leaves as it was
@@ -19,11 +19,12 @@ module _ {K V S T : Type 0} (m : Meanings K V S T) where
     pub set : (p : Path) (vs : List V) → w.set p ≡ Some vs → v.set p ≡ Some vs
     pub opened : (p : Path) (outs : List (Link V)) → w.opened p ≡ Some outs → v.opened p ≡ Some outs
     pub answers : (p : Path) (a : Answer) → w.answers p ≡ Some a → v.answers p ≡ Some a
+    pub warned : (p : Path) (warnings : List Warning) → w.warned p ≡ Some warnings → v.warned p ≡ Some warnings
     pub finished : (p : Path) → finished w p ≡ true → finished v p ≡ true
     pub leads : (x : Source V) → is_set w x ≡ true → v.leads x ≡ w.leads x
 
   pub same_world : (w : World K V) → Grows w w
-  same_world w = record { graph = λ n node e. e; set = λ p vs e. e; opened = λ p os e. e; answers = λ p a e. e; finished = λ p e. e; leads = λ x e. refl }
+  same_world w = record { graph = λ n node e. e; set = λ p vs e. e; opened = λ p os e. e; answers = λ p a e. e; warned = λ p ws e. e; finished = λ p e. e; leads = λ x e. refl }
 
   module _ (w v : World K V) (grows : Grows w v) where
     pub node_stays : (node : Node K V) → Has w.graph node → Has v.graph node
@@ -43,41 +44,41 @@ module _ {K V S T : Type 0} (m : Meanings K V S T) where
     pub read_stays : (link : Link V) → is_set w link.from ≡ true → reads m v link ≡ reads m w link
     read_stays link e =
         ap (λ l. link_value m (set_outputs m v) (along l link.through)) (grows.leads link.from e)
-        ∙ ap (λ u. converted m u ((w.leads link.from).through ++ link.through)) (there_stays (w.leads link.from).from e).1
+        ∙ ap (λ u. converted m.rows u ((w.leads link.from).through ++ link.through)) (there_stays (w.leads link.from).from e).1
 
-    same_selected : (node : Node K V) (role : Role) (links : List (Link V)) → ((link : Link V) → Has (selected role (m.choice node.kind (condition m (reads m w) links)) links) link → is_set w link.from ≡ true)
-        → selected role (m.choice node.kind (condition m (reads m v) links)) links ≡ selected role (m.choice node.kind (condition m (reads m w) links)) links
+    same_selected : (node : Node K V) (role : Role) (links : List (Link V)) → ((link : Link V) → Has (selected role (m.rows.choice node.kind (condition m (reads m w) links)) links) link → is_set w link.from ≡ true)
+        → selected role (m.rows.choice node.kind (condition m (reads m v) links)) links ≡ selected role (m.rows.choice node.kind (condition m (reads m w) links)) links
     same_selected node Plain links fed = refl
     same_selected node File links fed = refl
     same_selected node Zone links fed = refl
     same_selected node Switch [] fed = refl
-    same_selected node Switch (link ∷ links) fed = ap (λ u. selected Switch (m.choice node.kind u) (link ∷ links)) (read_stays link (fed link (inl refl)))
+    same_selected node Switch (link ∷ links) fed = ap (λ u. selected Switch (m.rows.choice node.kind u) (link ∷ links)) (read_stays link (fed link (inl refl)))
 
     abbrev pub Fed : World K V → Node K V → Type 0
     Fed u node = (link : Link V) → Has (links_read m (reads m u) node) link → is_set u link.from ≡ true
 
     pub same_reads : (node : Node K V) → Fed w node → links_read m (reads m v) node ≡ links_read m (reads m w) node
-    same_reads node fed = same_selected node (m.role node.kind) node.links fed
+    same_reads node fed = same_selected node (m.rows.role node.kind) node.links fed
 
     pub fed_stays : (node : Node K V) → Fed w node → Fed v node
     fed_stays node fed link has = set_stays link.from (fed link (subst (λ ls. Has ls link) (same_reads node fed) has))
 
     -- ---- use
 
-    sure_more : (node : Node K V) (role : Role) (links : List (Link V)) (link : Link V) → Has (sure_as m role (condition_set m w links) (m.choice node.kind (condition m (reads m w) links)) links) link
-        → Has (sure_as m role (condition_set m v links) (m.choice node.kind (condition m (reads m v) links)) links) link
+    sure_more : (node : Node K V) (role : Role) (links : List (Link V)) (link : Link V) → Has (sure_as m role (condition_set m w links) (m.rows.choice node.kind (condition m (reads m w) links)) links) link
+        → Has (sure_as m role (condition_set m v links) (m.rows.choice node.kind (condition m (reads m v) links)) links) link
     sure_more node Plain links link h = h
     sure_more node File links link h = h
     sure_more node Zone links link h = h
     sure_more node Switch [] link h = by_set (condition_set m v []) (condition_set m w []) h
       where
-        by_set : (b c : Bool) → Has (sure_as m Switch c (m.choice node.kind (condition m (reads m w) [])) []) link → Has (sure_as m Switch b (m.choice node.kind (condition m (reads m v) [])) []) link
+        by_set : (b c : Bool) → Has (sure_as m Switch c (m.rows.choice node.kind (condition m (reads m w) [])) []) link → Has (sure_as m Switch b (m.rows.choice node.kind (condition m (reads m v) [])) []) link
         by_set b true k = absurd k
         by_set b false k = absurd k
     sure_more node Switch (c ∷ links) link h = by_set (is_set w c.from) refl (is_set v c.from) refl h
       where
-        by_set : (b : Bool) → is_set w c.from ≡ b → (d : Bool) → is_set v c.from ≡ d → Has (sure_as m Switch b (m.choice node.kind (reads m w c)) (c ∷ links)) link → Has (sure_as m Switch d (m.choice node.kind (reads m v c)) (c ∷ links)) link
-        by_set true e true f k = subst (λ u. Has (c ∷ chosen (m.choice node.kind u) links) link) (sym (read_stays c e)) k
+        by_set : (b : Bool) → is_set w c.from ≡ b → (d : Bool) → is_set v c.from ≡ d → Has (sure_as m Switch b (m.rows.choice node.kind (reads m w c)) (c ∷ links)) link → Has (sure_as m Switch d (m.rows.choice node.kind (reads m v c)) (c ∷ links)) link
+        by_set true e true f k = subst (λ u. Has (c ∷ chosen (m.rows.choice node.kind u) links) link) (sym (read_stays c e)) k
         by_set true e false f k = let bad : true ≡ false = sym (set_stays c.from e) ∙ f in cc
         by_set false e true f (inl same) = inl same
         by_set false e true f (inr k) = absurd k
@@ -86,7 +87,7 @@ module _ {K V S T : Type 0} (m : Meanings K V S T) where
     pub reached_stays : (task : Task K V) (x : Source V) → Reached m task w (sure m w) x → Reached m task v (sure m v) x
     reached_stays task x (Reached.a_root link h) = Reached.a_root link h
     reached_stays task x (Reached.an_input node s link h r has) =
-        Reached.an_input node s link (node_stays node h) (reached_stays task (an_output node.path s) r) (sure_more node (m.role node.kind) node.links link has)
+        Reached.an_input node s link (node_stays node h) (reached_stays task (an_output node.path s) r) (sure_more node (m.rows.role node.kind) node.links link has)
     reached_stays task x (Reached.a_result p s outs link is r at) = Reached.a_result p s outs link (grows.opened p outs is) (reached_stays task (an_output p s) r) at
 
     pub used_stays : (task : Task K V) (node : Node K V) → Used m task w node → Used m task v node
@@ -105,7 +106,7 @@ module _ {K V S T : Type 0} (m : Meanings K V S T) (lawful : IsLawful m) (task :
   W es = world m task es
 
   abbrev HasAnswer : World K V → Node K V → Type 0
-  HasAnswer w node = m.role node.kind ≡ File → (a : Answer) × (w.answers node.path ≡ Some a)
+  HasAnswer w node = m.rows.role node.kind ≡ File → (a : Answer) × (w.answers node.path ≡ Some a)
 
   -- the node with this number was taken: all that it reads is set, and it is used
   abbrev pub IsTakenWell : World K V → ℕ → Type 0
@@ -126,25 +127,25 @@ module _ {K V S T : Type 0} (m : Meanings K V S T) (lawful : IsLawful m) (task :
   -- ---- a node that is ready is fed
 
   sure_is_read : (w : World K V) (node : Node K V) (role : Role) (links : List (Link V))
-      → ((link : Link V) → Has (sure_as m role (condition_set m w links) (m.choice node.kind (condition m (reads m w) links)) links) link → is_set w link.from ≡ true)
-      → sure_as m role (condition_set m w links) (m.choice node.kind (condition m (reads m w) links)) links ≡ selected role (m.choice node.kind (condition m (reads m w) links)) links
+      → ((link : Link V) → Has (sure_as m role (condition_set m w links) (m.rows.choice node.kind (condition m (reads m w) links)) links) link → is_set w link.from ≡ true)
+      → sure_as m role (condition_set m w links) (m.rows.choice node.kind (condition m (reads m w) links)) links ≡ selected role (m.rows.choice node.kind (condition m (reads m w) links)) links
   sure_is_read w node Plain links sets = refl
   sure_is_read w node File links sets = refl
   sure_is_read w node Zone links sets = refl
   sure_is_read w node Switch [] sets = refl
   sure_is_read w node Switch (c ∷ links) sets = by_set (is_set w c.from) refl
     where
-      first_in : (b : Bool) → Has (sure_as m Switch b (m.choice node.kind (reads m w c)) (c ∷ links)) c
+      first_in : (b : Bool) → Has (sure_as m Switch b (m.rows.choice node.kind (reads m w c)) (c ∷ links)) c
       first_in true = inl refl
       first_in false = inl refl
 
-      by_set : (b : Bool) → is_set w c.from ≡ b → sure_as m Switch (is_set w c.from) (m.choice node.kind (reads m w c)) (c ∷ links) ≡ c ∷ chosen (m.choice node.kind (reads m w c)) links
-      by_set true e = ap (λ b. sure_as m Switch b (m.choice node.kind (reads m w c)) (c ∷ links)) e
+      by_set : (b : Bool) → is_set w c.from ≡ b → sure_as m Switch (is_set w c.from) (m.rows.choice node.kind (reads m w c)) (c ∷ links) ≡ c ∷ chosen (m.rows.choice node.kind (reads m w c)) links
+      by_set true e = ap (λ b. sure_as m Switch b (m.rows.choice node.kind (reads m w c)) (c ∷ links)) e
       by_set false e = let bad : true ≡ false = sym (sets c (first_in (is_set w c.from))) ∙ e in cc
 
   -- where all that a node is sure to read is set, that is what its run reads
   pub sure_read : (w : World K V) (node : Node K V) → ((link : Link V) → Has (sure m w node) link → is_set w link.from ≡ true) → sure m w node ≡ links_read m (reads m w) node
-  sure_read w node sets = sure_is_read w node (m.role node.kind) node.links sets
+  sure_read w node sets = sure_is_read w node (m.rows.role node.kind) node.links sets
 
   pub fed_of : (w : World K V) (node : Node K V) → ((link : Link V) → Has (sure m w node) link → is_set w link.from ≡ true) → IsFed m lawful task w node
   fed_of w node sets link has = sets link (subst (λ ls. Has ls link) (sym (sure_read w node sets)) has)
@@ -157,6 +158,7 @@ module _ {K V S T : Type 0} (m : Meanings K V S T) (lawful : IsLawful m) (task :
     set = λ p vs e. entry_keeps node.path done.outputs w.set (not_set m lawful task w g node.path not (w.set node.path) refl) p vs e;
     opened = λ p os e. e;
     answers = λ p a e. e;
+    warned = entry_keeps node.path done.warnings w.warned (not_held (w.warned node.path) not);
     finished = λ p e. by_path (λ t. is_some (if t then Some done.warnings else w.warned p) ≡ true) node.path p (λ _. refl) (λ _. e);
     leads = λ x e. refl;
   }
@@ -167,6 +169,7 @@ module _ {K V S T : Type 0} (m : Meanings K V S T) (lawful : IsLawful m) (task :
     set = λ p vs e. e;
     opened = λ p os e. e;
     answers = λ p b e. entry_keeps node.path a w.answers none p b e;
+    warned = λ p ws e. e;
     finished = λ p e. e;
     leads = λ x e. refl;
   }
@@ -177,6 +180,7 @@ module _ {K V S T : Type 0} (m : Meanings K V S T) (lawful : IsLawful m) (task :
     set = λ p vs e. e;
     opened = λ p os e. entry_keeps zone.path outs w.opened (not_opened m lawful task w g zone.path not (w.opened zone.path) refl) p os e;
     answers = λ p a e. e;
+    warned = entry_keeps zone.path warnings w.warned (not_held (w.warned zone.path) not);
     finished = λ p e. by_path (λ t. is_some (if t then Some warnings else w.warned p) ≡ true) zone.path p (λ _. refl) (λ _. e);
     leads = λ x e. same_lead (w.leads x) (w.leads x).from e;
   }
@@ -191,18 +195,18 @@ module _ {K V S T : Type 0} (m : Meanings K V S T) (lawful : IsLawful m) (task :
           cc)
           (λ _. refl)
 
-  pub zone_well : (w : World K V) → Shape m lawful task w → (zone : Node K V) → Has w.graph zone → m.role zone.kind ≡ Zone → OpensWell m zone.path zone.kind (opened_by m (reads m w) zone)
+  pub zone_well : (w : World K V) → Shape m lawful task w → (zone : Node K V) → Has w.graph zone → m.rows.role zone.kind ≡ Zone → OpensWell m zone.path zone.kind (opened_by m (reads m w) zone)
   zone_well w g zone h role =
       let f : NodeFits m [] w.graph zone = g.fit zone h in
       lawful.opens zone.path zone.kind (slice_index_or (run_of m (reads m w) None zone).outputs 0 m.nothing) f.sorts (g.ends zone h) role f.kind
 
-  told_file : (w : World K V) → Shape m lawful task w → (node : Node K V) → Has w.graph node → (a : Answer) → w.answers node.path ≡ Some a → m.role node.kind ≡ File
+  told_file : (w : World K V) → Shape m lawful task w → (node : Node K V) → Has w.graph node → (a : Answer) → w.answers node.path ≡ Some a → m.rows.role node.kind ≡ File
   told_file w g node h a e =
-      let x : (x : Node K V) × Has w.graph x × (x.path ≡ node.path) × (m.role x.kind ≡ File) = g.answered node.path a e in
-      ap (λ n. m.role n.kind) (sym (known_by (λ n. n.path) w.graph g.differ x.0 node x.1 h x.2)) ∙ x.3
+      let x : (x : Node K V) × Has w.graph x × (x.path ≡ node.path) × (m.rows.role x.kind ≡ File) = g.answered node.path a e in
+      ap (λ n. m.rows.role n.kind) (sym (known_by (λ n. n.path) w.graph g.differ x.0 node x.1 h x.2)) ∙ x.3
 
   -- an import alone has an answer
-  pub answer_there : (w : World K V) → Shape m lawful task w → (node : Node K V) → Has w.graph node → HasAnswer w node → (role : Role) → m.role node.kind ≡ role → (o : Option Answer) → w.answers node.path ≡ o → is_some o ≡ is_file role
+  pub answer_there : (w : World K V) → Shape m lawful task w → (node : Node K V) → Has w.graph node → HasAnswer w node → (role : Role) → m.rows.role node.kind ≡ role → (o : Option Answer) → w.answers node.path ≡ o → is_some o ≡ is_file role
   answer_there w g node h has File is None e = let a : (a : Answer) × (w.answers node.path ≡ Some a) = has is in absurd (not_both e a.1)
   answer_there w g node h has File is (Some a) e = refl
   answer_there w g node h has Plain is None e = refl
@@ -226,9 +230,9 @@ module _ {K V S T : Type 0} (m : Meanings K V S T) (lawful : IsLawful m) (task :
     -- what an event does to the world
     pub data Step (w : World K V) : World K V → Type 0 where
       nothing_new : Step w w
-      gives_outputs : (node : Node K V) → Has w.graph node → IsFed m lawful task w node → finished w node.path ≡ false → m.role node.kind ≢ Zone → (answer : Option Answer) → w.answers node.path ≡ answer → is_some answer ≡ is_file (m.role node.kind) → Step w (with_outputs m w node (run_of m (reads m w) answer node))
-      gives_answer : (node : Node K V) → Has w.graph node → m.role node.kind ≡ File → w.answers node.path ≡ None → (a : Answer) → Told node a → Step w (record w { answers = with_entry node.path a w.answers })
-      opens_zone : (zone : Node K V) → Has w.graph zone → IsFed m lawful task w zone → finished w zone.path ≡ false → m.role zone.kind ≡ Zone → Step w (with_turns m w zone (turn_nodes m (reads m w) zone) (result_links m (reads m w) zone) (run_of m (reads m w) None zone).warnings)
+      gives_outputs : (node : Node K V) → Has w.graph node → IsFed m lawful task w node → finished w node.path ≡ false → m.rows.role node.kind ≢ Zone → (answer : Option Answer) → w.answers node.path ≡ answer → is_some answer ≡ is_file (m.rows.role node.kind) → Step w (with_outputs m w node (run_of m (reads m w) answer node))
+      gives_answer : (node : Node K V) → Has w.graph node → m.rows.role node.kind ≡ File → w.answers node.path ≡ None → (a : Answer) → Told node a → Step w (record w { answers = with_entry node.path a w.answers })
+      opens_zone : (zone : Node K V) → Has w.graph zone → IsFed m lawful task w zone → finished w zone.path ≡ false → m.rows.role zone.kind ≡ Zone → Step w (with_turns m w zone (turn_nodes m (reads m w) zone) (result_links m (reads m w) zone) (run_of m (reads m w) None zone).warnings)
 
     pub step_grows : (w v : World K V) → Shape m lawful task w → Step w v → Grows m w v
     step_grows w v g nothing_new = same_world m w
@@ -245,11 +249,11 @@ module _ {K V S T : Type 0} (m : Meanings K V S T) (lawful : IsLawful m) (task :
     step_shape w v g (opens_zone zone h fed not role) =
         shape_turns m lawful task w g zone h not role (opened_by m (reads m w) zone) (zone_well w g zone h role) (run_of m (reads m w) None zone).warnings
 
-    finish_step : (w : World K V) → Shape m lawful task w → (node : Node K V) → Has w.graph node → IsFed m lawful task w node → HasAnswer w node → finished w node.path ≡ false → (role : Role) → m.role node.kind ≡ role → Step w (finish_by_role m role w node)
+    finish_step : (w : World K V) → Shape m lawful task w → (node : Node K V) → Has w.graph node → IsFed m lawful task w node → HasAnswer w node → finished w node.path ≡ false → (role : Role) → m.rows.role node.kind ≡ role → Step w (finish_by_role m role w node)
     finish_step w g node h fed has not Zone is = opens_zone node h fed not is
-    finish_step w g node h fed has not Plain is = gives_outputs node h fed not (λ z. let bad : Plain ≡ Zone = sym is ∙ z in cc) (w.answers node.path) refl (answer_there w g node h has (m.role node.kind) refl (w.answers node.path) refl)
-    finish_step w g node h fed has not Switch is = gives_outputs node h fed not (λ z. let bad : Switch ≡ Zone = sym is ∙ z in cc) (w.answers node.path) refl (answer_there w g node h has (m.role node.kind) refl (w.answers node.path) refl)
-    finish_step w g node h fed has not File is = gives_outputs node h fed not (λ z. let bad : File ≡ Zone = sym is ∙ z in cc) (w.answers node.path) refl (answer_there w g node h has (m.role node.kind) refl (w.answers node.path) refl)
+    finish_step w g node h fed has not Plain is = gives_outputs node h fed not (λ z. let bad : Plain ≡ Zone = sym is ∙ z in cc) (w.answers node.path) refl (answer_there w g node h has (m.rows.role node.kind) refl (w.answers node.path) refl)
+    finish_step w g node h fed has not Switch is = gives_outputs node h fed not (λ z. let bad : Switch ≡ Zone = sym is ∙ z in cc) (w.answers node.path) refl (answer_there w g node h has (m.rows.role node.kind) refl (w.answers node.path) refl)
+    finish_step w g node h fed has not File is = gives_outputs node h fed not (λ z. let bad : File ≡ Zone = sym is ∙ z in cc) (w.answers node.path) refl (answer_there w g node h has (m.rows.role node.kind) refl (w.answers node.path) refl)
 
     pub step_of : (e : Event) (es : List Event) → Kept es → Allowed m task es e → ((n : ℕ) (a : Answer) (node : Node K V) → e ≡ Serve n a → slice_get (W es).graph n ≡ Some node → Told node a) → Step (W es) (W (e ∷ es))
     step_of (Take v n) es k a tells = nothing_new
@@ -260,7 +264,7 @@ module _ {K V S T : Type 0} (m : Meanings K V S T) (lawful : IsLawful m) (task :
     step_of (Finish v n) es k a tells =
         let t : IsTakenWell (W es) n = k.taken v n a.0 in
         subst (λ o. Step (W es) (finish_node m (W es) o)) (sym t.1)
-        (finish_step (W es) k.shape t.0 (member_at (W es).graph n t.0 t.1) t.2 t.3 (not_finished es k n t.0 t.1 a.1 (finished (W es) t.0.path) refl) (m.role t.0.kind) refl)
+        (finish_step (W es) k.shape t.0 (member_at (W es).graph n t.0 t.1) t.2 t.3 (not_finished es k n t.0 t.1 a.1 (finished (W es) t.0.path) refl) (m.rows.role t.0.kind) refl)
 
   -- ---- each event keeps it
 
@@ -297,7 +301,7 @@ module _ {K V S T : Type 0} (m : Meanings K V S T) (lawful : IsLawful m) (task :
   finishes_next (Finish u j) es k a grows v n (inl q) =
       let t : IsTakenWell (W es) j = k.taken u j a.0 in
       subst (IsFinished (W (Finish u j ∷ es))) (sym (ap number_of q))
-      (t.0, grows.graph j t.0 t.1, subst (λ o. finished (finish_node m (W es) o) t.0.path ≡ true) (sym t.1) (now_finished (W es) t.0 (m.role t.0.kind)))
+      (t.0, grows.graph j t.0 t.1, subst (λ o. finished (finish_node m (W es) o) t.0.path ≡ true) (sym t.1) (now_finished (W es) t.0 (m.rows.role t.0.kind)))
   finishes_next (Take u j) es k a grows v n (inl q) = cc
   finishes_next (Serve j b) es k a grows v n (inl q) = cc
   finishes_next (Refuse u) es k a grows v n (inl q) = cc
@@ -320,7 +324,7 @@ module _ {K V S T : Type 0} (m : Meanings K V S T) (lawful : IsLawful m) (task :
       (k.finished_by p (subst (λ o. finished (serve_node m (W es) b o) p ≡ true) a.0.1.there e))
   finished_by_next (Finish u j) es k a grows p e =
       let t : IsTakenWell (W es) j = k.taken u j a.0 in
-      elim (finished_or (W es) t.0 p (m.role t.0.kind) (subst (λ o. finished (finish_node m (W es) o) p ≡ true) t.1 e)) [
+      elim (finished_or (W es) t.0 p (m.rows.role t.0.kind) (subst (λ o. finished (finish_node m (W es) o) p ≡ true) t.1 e)) [
         | inl same ↦ (u, j, t.0, inl refl, grows.graph j t.0 t.1, same)
         | inr old ↦ was_finished_stays (Finish u j) es (W es) (W (Finish u j ∷ es)) grows p (k.finished_by p old)
       ]

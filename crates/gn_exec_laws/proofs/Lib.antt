@@ -1,21 +1,22 @@
-mod Lists
-mod Paths
-mod Sorts
-mod Shapes
-mod Kept
-mod Order
-mod Counts
-mod Growing
-mod Fitting
-mod Right
-mod Safety
-mod Waits
-mod Ends
-mod Narrows
-mod Complete
-mod Solution
-mod Closure
-mod Listed
-mod Progress
+pub mod Sorts
+pub mod Shapes
+pub mod Kept
+pub mod Order
+pub mod Counts
+pub mod Growing
+pub mod Fitting
+pub mod Right
+pub mod Safety
+pub mod Waits
+pub mod Ends
+pub mod Narrows
+pub mod Complete
+pub mod Solution
+pub mod Closure
+pub mod Listed
+pub mod Progress
+pub mod Counted
+pub mod Events
+pub mod Shared
 mod Small
 mod Examples

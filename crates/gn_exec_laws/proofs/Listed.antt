@@ -1,12 +1,12 @@
 -- The demanded nodes as a list.
 use Rattle.std.proofs.Common.{◌≡◌, inl, inr, ◌<◌, ◌≤◌, ℕ, List, [], ◌∷◌, ◌++◌, map, Option, Some, None, Bool, true, false, refl, sym, ◌∙◌, ap, subst, arith}
 use Rattle.std.specs.Prelude.{if◌then◌else◌, slice_get}
-use Rattle.gn_exec_laws.specs.Paths.{Path}
-use Rattle.gn_exec_laws.specs.Meanings.{Has, Source, a_value, an_item, an_output, Link, Node, Role, Plain, Switch, File, Zone, Meanings}
-use Rattle.gn_exec_laws.specs.Graphs.{Task, AllDiffer, link_value, choice_of, links_read, result_links, Answers, Unfolded, Solves, Brought, Wanted, ListsDemand}
+use Rattle.gn_node_set.specs.Paths.{Path}
+use Rattle.gn_node_set.specs.Meanings.{Has, Source, a_value, an_item, an_output, Link, Node, Role, Plain, Switch, File, Zone, Meanings, AllDiffer}
+use Rattle.gn_exec_laws.specs.Graphs.{Task, link_value, choice_of, links_read, result_links, Answers, Unfolded, Solves, Brought, Wanted, ListsDemand}
 use Rattle.gn_exec_laws.specs.Fits.{CanStart, IsLawful}
 use Rattle.gn_exec_laws.specs.Machine.{World, reads}
-use Rattle.gn_exec_laws.proofs.Lists.{has_first, has_second, has_either, has_image, image_of, member_at}
+use Rattle.gn_node_set.proofs.Lists.{has_first, has_second, has_either, has_image, image_of, member_at}
 use Rattle.gn_exec_laws.proofs.Sorts.{selected_from}
 use Rattle.gn_exec_laws.proofs.Order.{Ordered}
 use Rattle.gn_exec_laws.proofs.Closure.{Reaches, height, reached, listed, listed_reaches, any_output, output_found_in, output_in}
@@ -38,14 +38,14 @@ module _ {K V S T : Type 0} (m : Meanings K V S T) (lawful : IsLawful m) (task :
   result_in _ _ = []
 
   brought_by : Node K V → ℕ → List (Source V)
-  brought_by node s = froms (links_read m value node) ++ result_in (m.role node.kind) (slice_get (result_links m value node) s)
+  brought_by node s = froms (links_read m value node) ++ result_in (m.rows.role node.kind) (slice_get (result_links m value node) s)
 
   abbrev Closed : Source V → Type 0
   Closed = Reaches v.graph (froms task.roots) brought_by
 
   -- ---- what is wanted is what nodes bring
 
-  result_wanted : (node : Node K V) (s : ℕ) → Is node → Wanted m task tells den (an_output node.path s) → (role : Role) → m.role node.kind ≡ role → (o : Option (Link V)) → slice_get (result_links m value node) s ≡ o → (x : Source V) → Has (result_in role o) x → Wanted m task tells den x
+  result_wanted : (node : Node K V) (s : ℕ) → Is node → Wanted m task tells den (an_output node.path s) → (role : Role) → m.rows.role node.kind ≡ role → (o : Option (Link V)) → slice_get (result_links m value node) s ≡ o → (x : Source V) → Has (result_in role o) x → Wanted m task tells den x
   unfolding result_in
   result_wanted node s is d Zone role (Some link) at x (inl q) = subst (Wanted m task tells den) (sym q) (Brought.a_result node s link is role d at)
   result_wanted node s is d Zone role (Some link) at x (inr q) = absurd q
@@ -56,11 +56,11 @@ module _ {K V S T : Type 0} (m : Meanings K V S T) (lawful : IsLawful m) (task :
 
   node_brings : (node : Node K V) (s : ℕ) → Is node → Wanted m task tells den (an_output node.path s) → (x : Source V) → Has (brought_by node s) x → Wanted m task tells den x
   unfolding brought_by froms
-  node_brings node s is d x h = elim (has_either (map (λ l. l.from) (links_read m value node)) (result_in (m.role node.kind) (slice_get (result_links m value node) s)) x h) [
+  node_brings node s is d x h = elim (has_either (map (λ l. l.from) (links_read m value node)) (result_in (m.rows.role node.kind) (slice_get (result_links m value node) s)) x h) [
     | inl a ↦
         let link : (link : Link V) × Has (links_read m value node) link × (x ≡ link.from) = image_of (λ l. l.from) (links_read m value node) x a in
         subst (Wanted m task tells den) (sym link.2) (Brought.an_input node s link.0 is d link.1)
-    | inr b ↦ result_wanted node s is d (m.role node.kind) refl (slice_get (result_links m value node) s) refl x b
+    | inr b ↦ result_wanted node s is d (m.rows.role node.kind) refl (slice_get (result_links m value node) s) refl x b
   ]
 
   closed_wanted : (x : Source V) → Closed x → Wanted m task tells den x
@@ -70,13 +70,13 @@ module _ {K V S T : Type 0} (m : Meanings K V S T) (lawful : IsLawful m) (task :
 
   in_reads : (node : Node K V) (s : ℕ) (link : Link V) → Has (links_read m value node) link → Has (brought_by node s) link.from
   unfolding brought_by froms
-  in_reads node s link h = has_first (map (λ l. l.from) (links_read m value node)) (result_in (m.role node.kind) (slice_get (result_links m value node) s)) link.from (has_image (λ l. l.from) (links_read m value node) link h)
+  in_reads node s link h = has_first (map (λ l. l.from) (links_read m value node)) (result_in (m.rows.role node.kind) (slice_get (result_links m value node) s)) link.from (has_image (λ l. l.from) (links_read m value node) link h)
 
-  in_results : (node : Node K V) (s : ℕ) (link : Link V) → m.role node.kind ≡ Zone → slice_get (result_links m value node) s ≡ Some link → Has (brought_by node s) link.from
+  in_results : (node : Node K V) (s : ℕ) (link : Link V) → m.rows.role node.kind ≡ Zone → slice_get (result_links m value node) s ≡ Some link → Has (brought_by node s) link.from
   unfolding brought_by result_in
   in_results node s link role at =
-      has_second (froms (links_read m value node)) (result_in (m.role node.kind) (slice_get (result_links m value node) s)) link.from
-      (subst (λ o. Has (result_in (m.role node.kind) o) link.from) (sym at) (subst (λ r. Has (result_in r (Some link)) link.from) (sym role) (inl refl)))
+      has_second (froms (links_read m value node)) (result_in (m.rows.role node.kind) (slice_get (result_links m value node) s)) link.from
+      (subst (λ o. Has (result_in (m.rows.role node.kind) o) link.from) (sym at) (subst (λ r. Has (result_in r (Some link)) link.from) (sym role) (inl refl)))
 
   wanted_closed : (x : Source V) → Wanted m task tells den x → Closed x
   unfolding froms
@@ -95,7 +95,7 @@ module _ {K V S T : Type 0} (m : Meanings K V S T) (lawful : IsLawful m) (task :
   link_height node link h has (an_item i) e = omega arith
   link_height node link h has (an_output p k) e = let less : order.rank p < order.rank node.path = order.links node link p k h has e in omega arith
 
-  result_height : (zone : Node K V) (link : Link V) → Has v.graph zone → m.role zone.kind ≡ Zone → Has (result_links m (reads m v) zone) link → (y : Source V) → link.from ≡ y → height v.graph (froms task.roots) brought_by order.rank y ≤ order.rank zone.path
+  result_height : (zone : Node K V) (link : Link V) → Has v.graph zone → m.rows.role zone.kind ≡ Zone → Has (result_links m (reads m v) zone) link → (y : Source V) → link.from ≡ y → height v.graph (froms task.roots) brought_by order.rank y ≤ order.rank zone.path
   unfolding height
   result_height zone link h role has (a_value u) e = omega arith
   result_height zone link h role has (an_item i) e = omega arith
@@ -103,7 +103,7 @@ module _ {K V S T : Type 0} (m : Meanings K V S T) (lawful : IsLawful m) (task :
       let less : order.rank p < order.rank zone.path = order.results zone.path (result_links m (reads m v) zone) link p k (ic.fine.solved.zones zone h (ic.done zone h) role) has e in
       omega arith
 
-  result_below : (node : Node K V) (s : ℕ) → Has v.graph node → (role : Role) → m.role node.kind ≡ role → (o : Option (Link V)) → slice_get (result_links m value node) s ≡ o → (x : Source V) → Has (result_in role o) x → height v.graph (froms task.roots) brought_by order.rank x ≤ order.rank node.path
+  result_below : (node : Node K V) (s : ℕ) → Has v.graph node → (role : Role) → m.rows.role node.kind ≡ role → (o : Option (Link V)) → slice_get (result_links m value node) s ≡ o → (x : Source V) → Has (result_in role o) x → height v.graph (froms task.roots) brought_by order.rank x ≤ order.rank node.path
   unfolding result_in
   result_below node s h Zone role (Some link) at x (inl q) =
       let same : result_links m value node ≡ result_links m (reads m v) node = results_same m lawful task c tells v ic den (agrees_any m lawful task c tells v ic den solves) node h in
@@ -120,13 +120,13 @@ module _ {K V S T : Type 0} (m : Meanings K V S T) (lawful : IsLawful m) (task :
   read_below node x h a =
       let link : (link : Link V) × Has (links_read m value node) link × (x ≡ link.from) = image_of (λ l. l.from) (links_read m value node) x a in
       subst (λ y. height v.graph (map (λ l. l.from) task.roots) brought_by order.rank y ≤ order.rank node.path) (sym link.2)
-      (link_height node link.0 h (selected_from (m.role node.kind) (choice_of m value node) node.links link.0 link.1) link.0.from refl)
+      (link_height node link.0 h (selected_from (m.rows.role node.kind) (choice_of m value node) node.links link.0 link.1) link.0.from refl)
 
   lower : (node : Node K V) (s : ℕ) (x : Source V) → Has v.graph node → Has (brought_by node s) x → height v.graph (froms task.roots) brought_by order.rank x ≤ order.rank node.path
   unfolding brought_by
-  lower node s x h k = elim (has_either (froms (links_read m value node)) (result_in (m.role node.kind) (slice_get (result_links m value node) s)) x k) [
+  lower node s x h k = elim (has_either (froms (links_read m value node)) (result_in (m.rows.role node.kind) (slice_get (result_links m value node) s)) x k) [
     | inl a ↦ read_below node x h a
-    | inr b ↦ result_below node s h (m.role node.kind) refl (slice_get (result_links m value node) s) refl x b
+    | inr b ↦ result_below node s h (m.rows.role node.kind) refl (slice_get (result_links m value node) s) refl x b
   ]
 
   -- ---- the nodes whose outputs are wanted

@@ -1,14 +1,14 @@
 -- A used node may be used, and what may be used becomes no more, but for the nodes of turns that are new.
 use Rattle.std.proofs.Common.{◌≡◌, ◌≢◌, ◌⊎◌, inl, inr, ℕ, List, [], ◌∷◌, ◌++◌, Option, Some, None, Bool, true, false, refl, sym, ◌∙◌, ap, subst}
 use Rattle.std.specs.Prelude.{is_some, slice_get}
-use Rattle.gn_exec_laws.specs.Paths.{Path}
-use Rattle.gn_exec_laws.specs.Meanings.{Has, Source, a_value, an_item, an_output, Link, plain_link, Node, Role, Plain, Switch, File, Zone, Choice, Meanings}
-use Rattle.gn_exec_laws.specs.Graphs.{Task, tail_of, chosen, condition, choice_of, opened_by, outer_source, outer_link, outer_node, turn_nodes, result_links, run_of}
+use Rattle.gn_node_set.specs.Paths.{Path}
+use Rattle.gn_node_set.specs.Meanings.{Has, Source, a_value, an_item, an_output, Link, plain_link, Node, Role, Plain, Switch, File, Zone, Choice, Meanings, tail_of, chosen}
+use Rattle.gn_exec_laws.specs.Graphs.{Task, condition, choice_of, opened_by, outer_source, outer_link, outer_node, turn_nodes, result_links, run_of}
 use Rattle.gn_exec_laws.specs.Fits.{SourceSort, LinkSort, LinkSorts, NodeFits, CanStart, OpensWell, IsLawful}
 use Rattle.gn_exec_laws.specs.Machine.{Event, World, finished, is_set, reads, with_turns, world, condition_set, sure_as, sure, possible_as, possible, Reached, MaybeUsed, IsRun}
 use Rattle.gn_exec_laws.specs.Claims.{UsesNarrow}
-use Rattle.gn_exec_laws.proofs.Lists.{has_either, has_image, image_of, member_at, at_or}
-use Rattle.gn_exec_laws.proofs.Paths.{entry_is}
+use Rattle.gn_node_set.proofs.Lists.{has_either, has_image, image_of, member_at, at_or}
+use Rattle.gn_node_set.proofs.Paths.{entry_is}
 use Rattle.gn_exec_laws.proofs.Sorts.{head_from, tail_from, selected_from, each_fits, beside_of, links_beside}
 use Rattle.gn_exec_laws.proofs.Shapes.{Shape, apart, not_opened}
 use Rattle.gn_exec_laws.proofs.Kept.{Grows, Kept, kept, Step, AnyAnswer, step_of, zone_well, node_stays, set_stays, read_stays}
@@ -29,7 +29,7 @@ module _ {K V S T : Type 0} (m : Meanings K V S T) where
   reached_possible task w x (Reached.a_root link h) = Reached.a_root link h
   reached_possible task w x (Reached.an_input node s link h r has) =
       Reached.an_input node s link h (reached_possible task w (an_output node.path s) r)
-      (sure_possible (m.role node.kind) (condition_set m w node.links) (is_some (w.opened node.path)) (choice_of m (reads m w) node) node.links link has)
+      (sure_possible (m.rows.role node.kind) (condition_set m w node.links) (is_some (w.opened node.path)) (choice_of m (reads m w) node) node.links link has)
   reached_possible task w x (Reached.a_result p s outs link is r at) = Reached.a_result p s outs link is (reached_possible task w (an_output p s) r) at
 
   possible_from : (role : Role) (b open' : Bool) (choice : Choice) (links : List (Link V)) (link : Link V) → Has (possible_as m role b open' choice links) link → Has links link
@@ -41,43 +41,43 @@ module _ {K V S T : Type 0} (m : Meanings K V S T) where
   possible_from Switch false open' choice links link h = h
 
   pub possible_linked : (w : World K V) (node : Node K V) (link : Link V) → Has (possible m w node) link → Has node.links link
-  possible_linked w node link h = possible_from (m.role node.kind) (condition_set m w node.links) (is_some (w.opened node.path)) (choice_of m (reads m w) node) node.links link h
+  possible_linked w node link h = possible_from (m.rows.role node.kind) (condition_set m w node.links) (is_some (w.opened node.path)) (choice_of m (reads m w) node) node.links link h
 
   -- ---- what may be read becomes no more
 
   module _ (w v : World K V) (grows : Grows m w v) where
-    fewer : (node : Node K V) (role : Role) (links : List (Link V)) (link : Link V) → Has (possible_as m role (condition_set m v links) (is_some (v.opened node.path)) (m.choice node.kind (condition m (reads m v) links)) links) link
-        → Has (possible_as m role (condition_set m w links) (is_some (w.opened node.path)) (m.choice node.kind (condition m (reads m w) links)) links) link
+    fewer : (node : Node K V) (role : Role) (links : List (Link V)) (link : Link V) → Has (possible_as m role (condition_set m v links) (is_some (v.opened node.path)) (m.rows.choice node.kind (condition m (reads m v) links)) links) link
+        → Has (possible_as m role (condition_set m w links) (is_some (w.opened node.path)) (m.rows.choice node.kind (condition m (reads m w) links)) links) link
     fewer node Plain links link h = h
     fewer node File links link h = h
     fewer node Zone links link h = by_opened (w.opened node.path) refl h
       where
         choice : World K V → Choice
-        choice u = m.choice node.kind (condition m (reads m u) links)
+        choice u = m.rows.choice node.kind (condition m (reads m u) links)
 
-        by_opened : (o : Option (List (Link V))) → w.opened node.path ≡ o → Has (possible_as m Zone (condition_set m v links) (is_some (v.opened node.path)) (m.choice node.kind (condition m (reads m v) links)) links) link
-            → Has (possible_as m Zone (condition_set m w links) (is_some (w.opened node.path)) (m.choice node.kind (condition m (reads m w) links)) links) link
+        by_opened : (o : Option (List (Link V))) → w.opened node.path ≡ o → Has (possible_as m Zone (condition_set m v links) (is_some (v.opened node.path)) (m.rows.choice node.kind (condition m (reads m v) links)) links) link
+            → Has (possible_as m Zone (condition_set m w links) (is_some (w.opened node.path)) (m.rows.choice node.kind (condition m (reads m w) links)) links) link
         by_opened None e k =
-            subst (λ o. Has (possible_as m Zone (condition_set m w links) (is_some o) (m.choice node.kind (condition m (reads m w) links)) links) link) (sym e)
-            (possible_from Zone (condition_set m v links) (is_some (v.opened node.path)) (m.choice node.kind (condition m (reads m v) links)) links link k)
+            subst (λ o. Has (possible_as m Zone (condition_set m w links) (is_some o) (m.rows.choice node.kind (condition m (reads m w) links)) links) link) (sym e)
+            (possible_from Zone (condition_set m v links) (is_some (v.opened node.path)) (m.rows.choice node.kind (condition m (reads m v) links)) links link k)
         by_opened (Some outs) e k =
-            subst (λ o. Has (possible_as m Zone (condition_set m w links) (is_some o) (m.choice node.kind (condition m (reads m w) links)) links) link) (sym e)
-            (subst (λ o. Has (possible_as m Zone (condition_set m v links) (is_some o) (m.choice node.kind (condition m (reads m v) links)) links) link) (grows.opened node.path outs e) k)
+            subst (λ o. Has (possible_as m Zone (condition_set m w links) (is_some o) (m.rows.choice node.kind (condition m (reads m w) links)) links) link) (sym e)
+            (subst (λ o. Has (possible_as m Zone (condition_set m v links) (is_some o) (m.rows.choice node.kind (condition m (reads m v) links)) links) link) (grows.opened node.path outs e) k)
     fewer node Switch [] link h = absurd (none_of (condition_set m v []) h)
       where
-        none_of : (b : Bool) → Has (possible_as m Switch b (is_some (v.opened node.path)) (m.choice node.kind (condition m (reads m v) [])) []) link → ⊥
+        none_of : (b : Bool) → Has (possible_as m Switch b (is_some (v.opened node.path)) (m.rows.choice node.kind (condition m (reads m v) [])) []) link → ⊥
         none_of true k = k
         none_of false k = k
     fewer node Switch (first ∷ links) link h = by_set (is_set w first.from) refl (is_set v first.from) refl h
       where
-        by_set : (b : Bool) → is_set w first.from ≡ b → (d : Bool) → is_set v first.from ≡ d → Has (possible_as m Switch d (is_some (v.opened node.path)) (m.choice node.kind (reads m v first)) (first ∷ links)) link
-            → Has (possible_as m Switch b (is_some (w.opened node.path)) (m.choice node.kind (reads m w first)) (first ∷ links)) link
-        by_set false e d f k = possible_from Switch d (is_some (v.opened node.path)) (m.choice node.kind (reads m v first)) (first ∷ links) link k
-        by_set true e true f k = subst (λ u. Has (first ∷ chosen (m.choice node.kind u) links) link) (read_stays m w v grows first e) k
+        by_set : (b : Bool) → is_set w first.from ≡ b → (d : Bool) → is_set v first.from ≡ d → Has (possible_as m Switch d (is_some (v.opened node.path)) (m.rows.choice node.kind (reads m v first)) (first ∷ links)) link
+            → Has (possible_as m Switch b (is_some (w.opened node.path)) (m.rows.choice node.kind (reads m w first)) (first ∷ links)) link
+        by_set false e d f k = possible_from Switch d (is_some (v.opened node.path)) (m.rows.choice node.kind (reads m v first)) (first ∷ links) link k
+        by_set true e true f k = subst (λ u. Has (first ∷ chosen (m.rows.choice node.kind u) links) link) (read_stays m w v grows first e) k
         by_set true e false f k = let bad : true ≡ false = sym (set_stays m w v grows first.from e) ∙ f in cc
 
     pub fewer_possible : (node : Node K V) (link : Link V) → Has (possible m v node) link → Has (possible m w node) link
-    fewer_possible node link h = fewer node (m.role node.kind) node.links link h
+    fewer_possible node link h = fewer node (m.rows.role node.kind) node.links link h
 
   -- an event that opens no zone
   narrows_plainly : (task : Task K V) (w v : World K V) → Grows m w v → v.graph ≡ w.graph → v.opened ≡ w.opened → (x : Source V) → Reached m task v (possible m v) x → Reached m task w (possible m w) x
@@ -88,7 +88,7 @@ module _ {K V S T : Type 0} (m : Meanings K V S T) where
       Reached.a_result p s outs link (ap (λ f. f p) (sym opened) ∙ is) (narrows_plainly task w v grows graph opened (an_output p s) r) at
 
 module _ {K V S T : Type 0} (m : Meanings K V S T) (lawful : IsLawful m) (task : Task K V) where
-  module _ (w : World K V) (g : Shape m lawful task w) (zone : Node K V) (h : Has w.graph zone) (not : finished w zone.path ≡ false) (role : m.role zone.kind ≡ Zone) (grows : Grows m w (with_turns m w zone (turn_nodes m (reads m w) zone) (result_links m (reads m w) zone) (run_of m (reads m w) None zone).warnings)) where
+  module _ (w : World K V) (g : Shape m lawful task w) (zone : Node K V) (h : Has w.graph zone) (not : finished w zone.path ≡ false) (role : m.rows.role zone.kind ≡ Zone) (grows : Grows m w (with_turns m w zone (turn_nodes m (reads m w) zone) (result_links m (reads m w) zone) (run_of m (reads m w) None zone).warnings)) where
     abbrev turns : List (Node K V)
     turns = turn_nodes m (reads m w) zone
 
@@ -155,7 +155,7 @@ module _ {K V S T : Type 0} (m : Meanings K V S T) (lawful : IsLawful m) (task :
         let t : (t : S) × LinkSort m [] w.graph link t = beside_of (LinkSort m [] w.graph) node.links f.sorts (links_beside m [] w.graph node.links f.sorts f.links) link (possible_linked m w node link has) in
         (t.1.0, t.1.1)
     before_sort x (Reached.a_result p s os link is r at) =
-        let z : (z : Node K V) × Has w.graph z × (z.path ≡ p) × (m.role z.kind ≡ Zone) × LinkSorts m [] w.graph os (m.gives z.kind) = g.opened p os is in
+        let z : (z : Node K V) × Has w.graph z × (z.path ≡ p) × (m.rows.role z.kind ≡ Zone) × LinkSorts m [] w.graph os (m.gives z.kind) = g.opened p os is in
         let t : (t : S) × LinkSort m [] w.graph link t = beside_of (LinkSort m [] w.graph) os (m.gives z.0.kind) (links_beside m [] w.graph os (m.gives z.0.kind) z.4) link (member_at os s link at) in
         (t.1.0, t.1.1)
 
@@ -197,7 +197,7 @@ module _ {K V S T : Type 0} (m : Meanings K V S T) (lawful : IsLawful m) (task :
     by_entry p s os link (inl e) was at =
         zone_result link (subst (λ xs. Has xs link) (sym e.1) (member_at os s link at)) s (old_before zone s h (subst (λ q. WasPossible (an_output q s)) (sym e.0) was))
     by_entry p s os link (inr e) was at =
-        let z : (z : Node K V) × Has w.graph z × (z.path ≡ p) × (m.role z.kind ≡ Zone) × LinkSorts m [] w.graph os (m.gives z.kind) = g.opened p os e.1 in
+        let z : (z : Node K V) × Has w.graph z × (z.path ≡ p) × (m.rows.role z.kind ≡ Zone) × LinkSorts m [] w.graph os (m.gives z.kind) = g.opened p os e.1 in
         let r : Before (an_output z.0.path s) = old_before z.0 s z.1 (subst (λ q. WasPossible (an_output q s)) (sym z.2) was) in
         some_before link.from (Reached.a_result p s os link e.1 (subst (λ q. Before (an_output q s)) z.2 r) at)
 

@@ -2,13 +2,13 @@
 use Rattle.std.proofs.Common.{◌≡◌, ◌≢◌, ◌⊎◌, inl, inr, ◌<◌, ◌≤◌, ◌+◌, ◌*◌, ℕ, suc, length, List, [], ◌∷◌, ◌++◌, map, Option, Some, None, false, refl, sym, ◌∙◌, ap, subst, arith, mul-le-mul_right}
 use Rattle.std.proofs.Math.Nat.{suc-mul}
 use Rattle.std.specs.Prelude.{unwrap_or, option_map, if◌then◌else◌, slice_get, slice_index_or}
-use Rattle.gn_exec_laws.specs.Paths.{Path, same_path}
-use Rattle.gn_exec_laws.specs.Meanings.{Has, Source, a_value, an_item, an_output, Link, plain_link, along, Node, Opened, Zone, Answer, Warning, Meanings}
-use Rattle.gn_exec_laws.specs.Graphs.{Task, AllDiffer, tail_of, outer_source, outer_link, outer_node, opened_by, run_of}
+use Rattle.gn_node_set.specs.Paths.{Path, same_path}
+use Rattle.gn_node_set.specs.Meanings.{Has, Source, a_value, an_item, an_output, Link, plain_link, along, Node, Opened, Zone, Answer, Warning, Meanings, AllDiffer, tail_of}
+use Rattle.gn_exec_laws.specs.Graphs.{Task, outer_source, outer_link, outer_node, opened_by, run_of}
 use Rattle.gn_exec_laws.specs.Fits.{paths_of, SourceSort, LinkSort, LinkSorts, NodeFits, NodesFit, CanStart, OpensWell, IsLawful}
 use Rattle.gn_exec_laws.specs.Machine.{Event, World, finished, link_now, reads, led_on, with_turns, first_world, world, IsRun}
-use Rattle.gn_exec_laws.proofs.Lists.{append_nil, append_assoc, map_append, has_second, has_either, has_image, image_of, member_at, index_at, at_or}
-use Rattle.gn_exec_laws.proofs.Paths.{by_path, entry_is}
+use Rattle.gn_node_set.proofs.Lists.{append_nil, append_assoc, map_append, has_second, has_either, has_image, image_of, member_at, index_at, at_or}
+use Rattle.gn_node_set.proofs.Paths.{by_path, entry_is}
 use Rattle.gn_exec_laws.proofs.Sorts.{beside_of, links_beside, tail_from}
 use Rattle.gn_exec_laws.proofs.Shapes.{Shape, apart, turn_shut, outs_sorts, not_opened}
 use Rattle.gn_exec_laws.proofs.Kept.{Kept, kept, Step, AnyAnswer, step_of, zone_well}
@@ -181,7 +181,7 @@ module _ {K V S T : Type 0} (m : Meanings K V S T) (lawful : IsLawful m) (task :
     opens = λ p k outs link e. cc;
   }
 
-  module _ (w : World K V) (g : Shape m lawful task w) (o : Ordered w) (zone : Node K V) (h : Has w.graph zone) (not : finished w zone.path ≡ false) (role : m.role zone.kind ≡ Zone) (opened : Opened K V) (well : OpensWell m zone.path zone.kind opened) (warnings : List Warning) where
+  module _ (w : World K V) (g : Shape m lawful task w) (o : Ordered w) (zone : Node K V) (h : Has w.graph zone) (not : finished w zone.path ≡ false) (role : m.rows.role zone.kind ≡ Zone) (opened : Opened K V) (well : OpensWell m zone.path zone.kind opened) (warnings : List Warning) where
     abbrev turns : List (Node K V)
     turns = map (outer_node m zone) opened.nodes
 
@@ -261,7 +261,7 @@ module _ {K V S T : Type 0} (m : Meanings K V S T) (lawful : IsLawful m) (task :
 
     old_results : (q : Path) (os : List (Link V)) (link : Link V) (p : Path) (k : ℕ) → w.opened q ≡ Some os → Has os link → link.from ≡ an_output p k → rank' p < rank' q
     old_results q os link p k is has e =
-        let z : (z : Node K V) × Has w.graph z × (z.path ≡ q) × (m.role z.kind ≡ Zone) × LinkSorts m [] w.graph os (m.gives z.kind) = g.opened q os is in
+        let z : (z : Node K V) × Has w.graph z × (z.path ≡ q) × (m.rows.role z.kind ≡ Zone) × LinkSorts m [] w.graph os (m.gives z.kind) = g.opened q os is in
         old_less o.rank zone.path qs p q (old_path p (out_source os (m.gives z.0.kind) [] w.graph z.4 link has p k e)) (old_path q (z.0, z.1, z.2)) (o.results q os link p k is has e)
 
     -- where an old source leads is old, and not above it

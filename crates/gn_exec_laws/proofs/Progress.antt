@@ -2,13 +2,13 @@
 use Rattle.std.proofs.Common.{◌≡◌, ◌≢◌, ◌⊎◌, inl, inr, ◌<◌, ◌≤◌, ◌+◌, ℕ, zero, suc, length, List, [], ◌∷◌, ◌++◌, map, Option, Some, None, Bool, true, false, refl, sym, ◌∙◌, ap, subst, arith}
 use Rattle.std.specs.Prelude.{◌==◌, slice_get}
 use Rattle.std.proofs.lemmas.Bool.Decides.{eqb_tells}
-use Rattle.gn_exec_laws.specs.Paths.{Path}
-use Rattle.gn_exec_laws.specs.Meanings.{Has, Source, a_value, an_item, an_output, Link, Node, Role, Plain, Switch, File, Zone, Answer, Meanings}
-use Rattle.gn_exec_laws.specs.Graphs.{Task, AllDiffer, Answers}
+use Rattle.gn_node_set.specs.Paths.{Path}
+use Rattle.gn_node_set.specs.Meanings.{Has, Source, a_value, an_item, an_output, Link, Node, Role, Plain, Switch, File, Zone, Answer, Meanings, AllDiffer}
+use Rattle.gn_exec_laws.specs.Graphs.{Task, Answers}
 use Rattle.gn_exec_laws.specs.Fits.{LinkSorts, CanStart, IsLawful}
 use Rattle.gn_exec_laws.specs.Machine.{Event, Take, Finish, Serve, Refuse, World, is_set, world, sure, Reached, Used, NoRefusals, Allowed, IsRun, AnswersAs, IsServed}
 use Rattle.gn_exec_laws.specs.Claims.{takes, finishes, serves, numbered, IsOver}
-use Rattle.gn_exec_laws.proofs.Lists.{some_same, not_both, append_assoc, has_first, has_second, has_either, has_image, image_of, member_at, one_place}
+use Rattle.gn_node_set.proofs.Lists.{some_same, not_both, append_assoc, has_first, has_second, has_either, has_image, image_of, member_at, one_place}
 use Rattle.gn_exec_laws.proofs.Kept.{Kept, kept, IsTakenWell}
 use Rattle.gn_exec_laws.proofs.Counts.{was_taken, was_finished, takes_differ, finishes_differ, by_taker}
 use Rattle.gn_exec_laws.proofs.Order.{Ordered, ordered}
@@ -99,7 +99,7 @@ module _ {K V S T : Type 0} (m : Meanings K V S T) (lawful : IsLawful m) (task :
     reached_closed x (Reached.a_root link h) = Reaches.from_start link.from (has_image (λ l. l.from) task.roots link h)
     reached_closed x (Reached.an_input node s link h d has) = Reaches.from_node node s link.from h (reached_closed (an_output node.path s) d) (in_sure node s link has)
     reached_closed x (Reached.a_result p s outs link e d at) =
-        let z : (z : Node K V) × Has w.graph z × (z.path ≡ p) × (m.role z.kind ≡ Zone) × LinkSorts m [] w.graph outs (m.gives z.kind) = k.shape.opened p outs e in
+        let z : (z : Node K V) × Has w.graph z × (z.path ≡ p) × (m.rows.role z.kind ≡ Zone) × LinkSorts m [] w.graph outs (m.gives z.kind) = k.shape.opened p outs e in
         Reaches.from_node z.0 s link.from z.1 (subst (λ q. Closed (an_output q s)) (sym z.2) (reached_closed (an_output p s) d))
         (in_results z.0 s outs link (subst (λ q. w.opened q ≡ Some outs) (sym z.2) e) at)
 
@@ -169,7 +169,7 @@ module _ {K V S T : Type 0} (m : Meanings K V S T) (lawful : IsLawful m) (task :
       same_node : (n : ℕ) (node x : Node K V) → slice_get w.graph n ≡ Some node → slice_get w.graph n ≡ Some x → x ≡ node
       same_node n node x a b = some_same (sym b ∙ a)
 
-      served : (n : ℕ) (node : Node K V) → slice_get w.graph n ≡ Some node → Used m task w node → m.role node.kind ≡ File → w.answers node.path ≡ None → Next
+      served : (n : ℕ) (node : Node K V) → slice_get w.graph n ≡ Some node → Used m task w node → m.rows.role node.kind ≡ File → w.answers node.path ≡ None → Next
       served n node at used file none = record {
         event = Serve n (tells node);
         allowed = ((node, record { there = at; used = used; file = file; no_answer = none }), calm);
@@ -177,7 +177,7 @@ module _ {K V S T : Type 0} (m : Meanings K V S T) (lawful : IsLawful m) (task :
         no_refusal = λ v q. cc;
       }
 
-      taken_next : (n : ℕ) (node : Node K V) → slice_get w.graph n ≡ Some node → Used m task w node → ((v : ℕ) → ¬ Has es (Take v n)) → ((link : Link V) → Has (sure m w node) link → is_set w link.from ≡ true) → (m.role node.kind ≡ File → (a : Answer) × (w.answers node.path ≡ Some a)) → Next
+      taken_next : (n : ℕ) (node : Node K V) → slice_get w.graph n ≡ Some node → Used m task w node → ((v : ℕ) → ¬ Has es (Take v n)) → ((link : Link V) → Has (sure m w node) link → is_set w link.from ≡ true) → (m.rows.role node.kind ≡ File → (a : Answer) × (w.answers node.path ≡ Some a)) → Next
       taken_next n node at used fresh all answered = record {
         event = Take 0 n;
         allowed = ((node, record { there = at; used = used; fresh = fresh; inputs = all; answered = answered }), calm);
@@ -185,13 +185,13 @@ module _ {K V S T : Type 0} (m : Meanings K V S T) (lawful : IsLawful m) (task :
         no_refusal = λ v q. cc;
       }
 
-      no_serve_of : (n : ℕ) (node : Node K V) → slice_get w.graph n ≡ Some node → (m.role node.kind ≡ File → (a : Answer) × (w.answers node.path ≡ Some a)) → (b : Answer) → ¬ Allowed m task es (Serve n b)
+      no_serve_of : (n : ℕ) (node : Node K V) → slice_get w.graph n ≡ Some node → (m.rows.role node.kind ≡ File → (a : Answer) × (w.answers node.path ≡ Some a)) → (b : Answer) → ¬ Allowed m task es (Serve n b)
       no_serve_of n node at answered b a =
           let same : a.0.0 ≡ node = same_node n node a.0.0 at a.0.1.there in
-          let x : (d : Answer) × (w.answers node.path ≡ Some d) = answered (ap (λ y. m.role y.kind) (sym same) ∙ a.0.1.file) in
+          let x : (d : Answer) × (w.answers node.path ≡ Some d) = answered (ap (λ y. m.rows.role y.kind) (sym same) ∙ a.0.1.file) in
           not_both (subst (λ y. w.answers y.path ≡ None) same a.0.1.no_answer) x.1
 
-      by_inputs : (n : ℕ) (node : Node K V) → slice_get w.graph n ≡ Some node → Used m task w node → (m.role node.kind ≡ File → (a : Answer) × (w.answers node.path ≡ Some a)) → Next ⊎ Quiet n
+      by_inputs : (n : ℕ) (node : Node K V) → slice_get w.graph n ≡ Some node → Used m task w node → (m.rows.role node.kind ≡ File → (a : Answer) × (w.answers node.path ≡ Some a)) → Next ⊎ Quiet n
       by_inputs n node at used answered = elim (find_take es n) [
         | inl t ↦ inr (λ v a. a.0.1.fresh t.0 t.1, no_serve_of n node at answered)
         | inr fresh ↦ elim (all_set m lawful task w (sure m w node)) [
@@ -206,7 +206,7 @@ module _ {K V S T : Type 0} (m : Meanings K V S T) (lawful : IsLawful m) (task :
         ]
       ]
 
-      by_role : (n : ℕ) (node : Node K V) → slice_get w.graph n ≡ Some node → Used m task w node → (role : Role) → m.role node.kind ≡ role → (o : Option Answer) → w.answers node.path ≡ o → Next ⊎ Quiet n
+      by_role : (n : ℕ) (node : Node K V) → slice_get w.graph n ≡ Some node → Used m task w node → (role : Role) → m.rows.role node.kind ≡ role → (o : Option Answer) → w.answers node.path ≡ o → Next ⊎ Quiet n
       by_role n node at used File is None e = inl (served n node at used is e)
       by_role n node at used role is (Some a) e = by_inputs n node at used (λ _. (a, e))
       by_role n node at used Plain is None e = by_inputs n node at used (λ file. let bad : Plain ≡ File = sym is ∙ file in cc)
@@ -216,7 +216,7 @@ module _ {K V S T : Type 0} (m : Meanings K V S T) (lawful : IsLawful m) (task :
       by_node : (n : ℕ) (o : Option (Node K V)) → slice_get w.graph n ≡ o → Next ⊎ Quiet n
       by_node n None e = inr (λ v a. not_both e a.0.1.there, λ b a. not_both e a.0.1.there)
       by_node n (Some node) e = elim (used_or_not node) [
-        | inl used ↦ by_role n node e used (m.role node.kind) refl (w.answers node.path) refl
+        | inl used ↦ by_role n node e used (m.rows.role node.kind) refl (w.answers node.path) refl
         | inr unused ↦ inr (λ v a. unused (subst (Used m task w) (same_node n node a.0.0 e a.0.1.there) a.0.1.used), λ b a. unused (subst (Used m task w) (same_node n node a.0.0 e a.0.1.there) a.0.1.used))
       ]
 

@@ -1,13 +1,13 @@
 -- What is set is what the equations of the nodes give, and what is used is demanded.
 use Rattle.std.proofs.Common.{◌≡◌, ◌≢◌, inl, inr, ℕ, List, [], ◌∷◌, ◌++◌, map, Option, Some, None, Bool, true, false, refl, sym, ◌∙◌, ap, subst}
 use Rattle.std.specs.Prelude.{is_some, unwrap_or, if◌then◌else◌, slice_get, slice_index_or}
-use Rattle.gn_exec_laws.specs.Paths.{Path, ends_plain, zone_of, with_entry}
-use Rattle.gn_exec_laws.specs.Meanings.{Has, Source, a_value, an_item, an_output, Link, plain_link, along, Node, Role, Plain, Switch, File, Zone, Answer, Warning, Done, Meanings}
-use Rattle.gn_exec_laws.specs.Graphs.{Task, AllDiffer, chosen, selected, converted, source_value, link_value, condition, links_read, run_of, opened_by, outer_link, outer_node, turn_nodes, result_links, Answers, answer_as, answer_of, Unfolded, Solves, Brought, Wanted, Demanded}
+use Rattle.gn_node_set.specs.Paths.{Path, ends_plain, zone_of, with_entry}
+use Rattle.gn_node_set.specs.Meanings.{Has, Source, a_value, an_item, an_output, Link, plain_link, along, Node, Role, Plain, Switch, File, Zone, Answer, Warning, Done, Meanings, AllDiffer, chosen, selected, converted, answer_for}
+use Rattle.gn_exec_laws.specs.Graphs.{Task, source_value, link_value, condition, links_read, run_of, opened_by, outer_link, outer_node, turn_nodes, result_links, Answers, answer_of, Unfolded, Solves, Brought, Wanted, Demanded}
 use Rattle.gn_exec_laws.specs.Fits.{paths_of, is_file, KindFits, NodeFits, CanStart, OpensWell, IsLawful}
 use Rattle.gn_exec_laws.specs.Machine.{Event, Serve, World, link_now, is_there, is_set, set_outputs, reads, led_on, with_outputs, with_turns, first_world, world, condition_set, sure_as, sure, Reached, Used, IsRun, AnswersAs, IsServed}
-use Rattle.gn_exec_laws.proofs.Lists.{some_same, held, not_both, has_either, image_of, map_map, map_equal, index_image, known_by}
-use Rattle.gn_exec_laws.proofs.Paths.{by_path, entry_is, no_zone, turn_ends}
+use Rattle.gn_node_set.proofs.Lists.{some_same, held, not_both, has_either, image_of, map_map, map_equal, index_image, known_by}
+use Rattle.gn_node_set.proofs.Paths.{by_path, entry_is, no_zone, turn_ends}
 use Rattle.gn_exec_laws.proofs.Sorts.{converted_joined, each_fits}
 use Rattle.gn_exec_laws.proofs.Shapes.{IsFed}
 use Rattle.gn_exec_laws.proofs.Kept.{kept, Step, step_of}
@@ -27,7 +27,7 @@ module _ {K V S T : Type 0} (m : Meanings K V S T) (lawful : IsLawful m) (task :
     pub kind : KindFits m node.kind sorts
     pub ends : ends_plain node.path ≡ true
 
-  opens_sound : (zone : Node K V) → IsSound zone → m.role zone.kind ≡ Zone → OpensWell m zone.path zone.kind (opened_by m value zone)
+  opens_sound : (zone : Node K V) → IsSound zone → m.rows.role zone.kind ≡ Zone → OpensWell m zone.path zone.kind (opened_by m value zone)
   opens_sound zone s role = lawful.opens zone.path zone.kind (slice_index_or (run_of m value None zone).outputs 0 m.nothing) s.sorts s.ends role s.kind
 
   there_sound : (node : Node K V) → Is node → IsSound node
@@ -42,15 +42,15 @@ module _ {K V S T : Type 0} (m : Meanings K V S T) (lawful : IsLawful m) (task :
         ends = turn_ends node.path zone.path (ap (λ n. zone_of n.path) x.2 ∙ well.in_turns x.0 x.1);
       }
 
-  pub zone_opens_well : (zone : Node K V) → Is zone → m.role zone.kind ≡ Zone → OpensWell m zone.path zone.kind (opened_by m value zone)
+  pub zone_opens_well : (zone : Node K V) → Is zone → m.rows.role zone.kind ≡ Zone → OpensWell m zone.path zone.kind (opened_by m value zone)
   zone_opens_well zone z role = opens_sound zone (there_sound zone z) role
 
-  turn_zone : (zone : Node K V) → Is zone → m.role zone.kind ≡ Zone → (node : Node K V) → Has (turn_nodes m value zone) node → zone_of node.path ≡ Some zone.path
+  turn_zone : (zone : Node K V) → Is zone → m.rows.role zone.kind ≡ Zone → (node : Node K V) → Has (turn_nodes m value zone) node → zone_of node.path ≡ Some zone.path
   turn_zone zone z role node h =
       let x : (x : Node K V) × Has (opened_by m value zone).nodes x × (node ≡ outer_node m zone x) = image_of (outer_node m zone) (opened_by m value zone).nodes node h in
       ap (λ n. zone_of n.path) x.2 ∙ (zone_opens_well zone z role).in_turns x.0 x.1
 
-  turns_differ : (zone : Node K V) → Is zone → m.role zone.kind ≡ Zone → AllDiffer (paths_of (turn_nodes m value zone))
+  turns_differ : (zone : Node K V) → Is zone → m.rows.role zone.kind ≡ Zone → AllDiffer (paths_of (turn_nodes m value zone))
   turns_differ zone z role = subst AllDiffer (sym (map_map (λ n. n.path) (outer_node m zone) (opened_by m value zone).nodes)) (zone_opens_well zone z role).differ
 
   -- no path names two nodes
@@ -71,8 +71,8 @@ module _ {K V S T : Type 0} (m : Meanings K V S T) (lawful : IsLawful m) (task :
     pub there : (node : Node K V) → Has w.graph node → Is node
     pub set : (p : Path) (vs : List V) → w.set p ≡ Some vs → vs ≡ den p
     pub leads : (x : Source V) → value (w.leads x) ≡ source_value m den x
-    pub opened : (p : Path) (outs : List (Link V)) → w.opened p ≡ Some outs → (zone : Node K V) × Is zone × (zone.path ≡ p) × (m.role zone.kind ≡ Zone) × (outs ≡ result_links m value zone)
-    pub told : (p : Path) (a : Answer) → w.answers p ≡ Some a → (node : Node K V) × Is node × (node.path ≡ p) × (m.role node.kind ≡ File) × (a ≡ tells node)
+    pub opened : (p : Path) (outs : List (Link V)) → w.opened p ≡ Some outs → (zone : Node K V) × Is zone × (zone.path ≡ p) × (m.rows.role zone.kind ≡ Zone) × (outs ≡ result_links m value zone)
+    pub told : (p : Path) (a : Answer) → w.answers p ≡ Some a → (node : Node K V) × Is node × (node.path ≡ p) × (m.rows.role node.kind ≡ File) × (a ≡ tells node)
     pub warned : (p : Path) (warnings : List Warning) → w.warned p ≡ Some warnings → WarnsRight w p warnings
 
   source_is_right : (w : World K V) → Right w → (y : Source V) → is_there w y ≡ true → source_value m (set_outputs m w) y ≡ source_value m den y
@@ -84,34 +84,34 @@ module _ {K V S T : Type 0} (m : Meanings K V S T) (lawful : IsLawful m) (task :
 
   -- a link now has the value that it had
   pub now_right : (w : World K V) → Right w → (link : Link V) → value (link_now w link) ≡ value link
-  now_right w g link = converted_joined m (source_value m den (w.leads link.from).from) (w.leads link.from).through link.through ∙ ap (λ u. converted m u link.through) (g.leads link.from)
+  now_right w g link = converted_joined m (source_value m den (w.leads link.from).from) (w.leads link.from).through link.through ∙ ap (λ u. converted m.rows u link.through) (g.leads link.from)
 
   pub reads_right : (w : World K V) → Right w → (link : Link V) → is_set w link.from ≡ true → reads m w link ≡ value link
-  reads_right w g link e = ap (λ u. converted m u ((w.leads link.from).through ++ link.through)) (source_is_right w g (w.leads link.from).from e) ∙ now_right w g link
+  reads_right w g link e = ap (λ u. converted m.rows u ((w.leads link.from).through ++ link.through)) (source_is_right w g (w.leads link.from).from e) ∙ now_right w g link
 
-  selected_right : (w : World K V) → Right w → (node : Node K V) (role : Role) (links : List (Link V)) → ((link : Link V) → Has (selected role (m.choice node.kind (condition m (reads m w) links)) links) link → is_set w link.from ≡ true)
-      → selected role (m.choice node.kind (condition m (reads m w) links)) links ≡ selected role (m.choice node.kind (condition m value links)) links
+  selected_right : (w : World K V) → Right w → (node : Node K V) (role : Role) (links : List (Link V)) → ((link : Link V) → Has (selected role (m.rows.choice node.kind (condition m (reads m w) links)) links) link → is_set w link.from ≡ true)
+      → selected role (m.rows.choice node.kind (condition m (reads m w) links)) links ≡ selected role (m.rows.choice node.kind (condition m value links)) links
   selected_right w g node Plain links fed = refl
   selected_right w g node File links fed = refl
   selected_right w g node Zone links fed = refl
   selected_right w g node Switch [] fed = refl
-  selected_right w g node Switch (link ∷ links) fed = ap (λ u. selected Switch (m.choice node.kind u) (link ∷ links)) (reads_right w g link (fed link (inl refl)))
+  selected_right w g node Switch (link ∷ links) fed = ap (λ u. selected Switch (m.rows.choice node.kind u) (link ∷ links)) (reads_right w g link (fed link (inl refl)))
 
   pub read_by_right : (w : World K V) → Right w → (node : Node K V) → IsFed m lawful task w node → links_read m (reads m w) node ≡ links_read m value node
-  read_by_right w g node fed = selected_right w g node (m.role node.kind) node.links fed
+  read_by_right w g node fed = selected_right w g node (m.rows.role node.kind) node.links fed
 
   -- a node whose inputs are set runs as the equations say
   pub run_right : (w : World K V) → Right w → (node : Node K V) (answer : Option Answer) → IsFed m lawful task w node → run_of m (reads m w) answer node ≡ run_of m value answer node
   run_right w g node answer fed =
-      ap (λ vs. m.row node.path node.kind vs answer)
+      ap (λ vs. m.rows.row node.path node.kind vs answer)
       (map_equal (reads m w) value (links_read m (reads m w) node) (λ link has. reads_right w g link (fed link has)) ∙ ap (map value) (read_by_right w g node fed))
 
   told_here : (w : World K V) → Right w → (node : Node K V) → Is node → (a : Answer) → w.answers node.path ≡ Some a → a ≡ tells node
   told_here w g node is a e =
-      let x : (x : Node K V) × Is x × (x.path ≡ node.path) × (m.role x.kind ≡ File) × (a ≡ tells x) = g.told node.path a e in
+      let x : (x : Node K V) × Is x × (x.path ≡ node.path) × (m.rows.role x.kind ≡ File) × (a ≡ tells x) = g.told node.path a e in
       x.4 ∙ ap tells (one_there x.0 node x.1 is x.2)
 
-  answer_right : (w : World K V) → Right w → (node : Node K V) → Is node → (role : Role) → (answer : Option Answer) → w.answers node.path ≡ answer → is_some answer ≡ is_file role → answer ≡ answer_as m role tells node
+  answer_right : (w : World K V) → Right w → (node : Node K V) → Is node → (role : Role) → (answer : Option Answer) → w.answers node.path ≡ answer → is_some answer ≡ is_file role → answer ≡ answer_for role (tells node)
   answer_right w g node is File None e there = cc
   answer_right w g node is File (Some a) e there = ap Some (told_here w g node is a e)
   answer_right w g node is Plain None e there = refl
@@ -121,8 +121,8 @@ module _ {K V S T : Type 0} (m : Meanings K V S T) (lawful : IsLawful m) (task :
   answer_right w g node is Switch (Some a) e there = cc
   answer_right w g node is Zone (Some a) e there = cc
 
-  pub whole_run_right : (w : World K V) → Right w → (node : Node K V) → Is node → (answer : Option Answer) → w.answers node.path ≡ answer → is_some answer ≡ is_file (m.role node.kind) → IsFed m lawful task w node → run_of m (reads m w) answer node ≡ run_of m value (answer_of m tells node) node
-  whole_run_right w g node is answer e there fed = run_right w g node answer fed ∙ ap (λ a. run_of m value a node) (answer_right w g node is (m.role node.kind) answer e there)
+  pub whole_run_right : (w : World K V) → Right w → (node : Node K V) → Is node → (answer : Option Answer) → w.answers node.path ≡ answer → is_some answer ≡ is_file (m.rows.role node.kind) → IsFed m lawful task w node → run_of m (reads m w) answer node ≡ run_of m value (answer_of m tells node) node
+  whole_run_right w g node is answer e there fed = run_right w g node answer fed ∙ ap (λ a. run_of m value a node) (answer_right w g node is (m.rows.role node.kind) answer e there)
 
   -- ---- each event keeps it
 
@@ -130,7 +130,7 @@ module _ {K V S T : Type 0} (m : Meanings K V S T) (lawful : IsLawful m) (task :
   Told node a = a ≡ tells node
 
   module _ (solves : Solves m task tells den) where
-    right_outputs : (w : World K V) → Right w → (node : Node K V) → Is node → m.role node.kind ≢ Zone → (done : Done V) → done ≡ run_of m value (answer_of m tells node) node → Right (with_outputs m w node done)
+    right_outputs : (w : World K V) → Right w → (node : Node K V) → Is node → m.rows.role node.kind ≢ Zone → (done : Done V) → done ≡ run_of m value (answer_of m tells node) node → Right (with_outputs m w node done)
     right_outputs w g node is plain done same = record {
       there = g.there;
       set = λ p vs e. elim (entry_is node.path done.outputs w.set p vs e) [
@@ -143,7 +143,7 @@ module _ {K V S T : Type 0} (m : Meanings K V S T) (lawful : IsLawful m) (task :
       warned = λ p ws e. elim (entry_is node.path done.warnings w.warned p ws e) [ inl s ↦ (node, is, s.0, sym s.1 ∙ ap (λ d. d.warnings) same) | inr s ↦ g.warned p ws s.1 ];
     }
 
-    right_answer : (w : World K V) → Right w → (node : Node K V) → Is node → m.role node.kind ≡ File → (a : Answer) → a ≡ tells node → Right (record w { answers = with_entry node.path a w.answers })
+    right_answer : (w : World K V) → Right w → (node : Node K V) → Is node → m.rows.role node.kind ≡ File → (a : Answer) → a ≡ tells node → Right (record w { answers = with_entry node.path a w.answers })
     right_answer w g node is file a told = record {
       there = g.there;
       set = g.set;
@@ -153,10 +153,10 @@ module _ {K V S T : Type 0} (m : Meanings K V S T) (lawful : IsLawful m) (task :
       warned = g.warned;
     }
 
-    zone_answer : (zone : Node K V) → m.role zone.kind ≡ Zone → answer_of m tells zone ≡ None
-    zone_answer zone role = ap (λ r. answer_as m r tells zone) role
+    zone_answer : (zone : Node K V) → m.rows.role zone.kind ≡ Zone → answer_of m tells zone ≡ None
+    zone_answer zone role = ap (λ r. answer_for r (tells zone)) role
 
-    led_right : (w : World K V) → Right w → (zone : Node K V) → Is zone → m.role zone.kind ≡ Zone → (link : Link V) (y : Source V) → link.from ≡ y → value (led_on m w zone.path (result_links m value zone) link y) ≡ value link
+    led_right : (w : World K V) → Right w → (zone : Node K V) → Is zone → m.rows.role zone.kind ≡ Zone → (link : Link V) (y : Source V) → link.from ≡ y → value (led_on m w zone.path (result_links m value zone) link y) ≡ value link
     led_right w g zone is role link (a_value u) e = refl
     led_right w g zone is role link (an_item i) e = refl
     led_right w g zone is role link (an_output p k) e =
@@ -164,14 +164,14 @@ module _ {K V S T : Type 0} (m : Meanings K V S T) (lawful : IsLawful m) (task :
         by_path (λ t. value (if t then along (link_now w (slice_index_or (result_links m value zone) k (plain_link (a_value m.nothing)))) link.through else link) ≡ value link) zone.path p
         (λ same.
         converted_joined m (source_value m den (link_now w result).from) (link_now w result).through link.through
-        ∙ ap (λ u. converted m u link.through)
+        ∙ ap (λ u. converted m.rows u link.through)
         (now_right w g result
         ∙ sym (index_image value (result_links m value zone) k (plain_link (a_value m.nothing)))
         ∙ ap (λ us. slice_index_or us k m.nothing) (sym (solves.zones zone is role) ∙ ap den same)
         ∙ ap (source_value m den) (sym e)))
         (λ _. refl)
 
-    right_turns : (w : World K V) → Right w → (zone : Node K V) → Is zone → m.role zone.kind ≡ Zone → (warnings : List Warning) → warnings ≡ (run_of m value None zone).warnings → Right (with_turns m w zone (turn_nodes m value zone) (result_links m value zone) warnings)
+    right_turns : (w : World K V) → Right w → (zone : Node K V) → Is zone → m.rows.role zone.kind ≡ Zone → (warnings : List Warning) → warnings ≡ (run_of m value None zone).warnings → Right (with_turns m w zone (turn_nodes m value zone) (result_links m value zone) warnings)
     right_turns w g zone is role warnings same = record {
       there = λ node h. elim (has_either w.graph (turn_nodes m value zone) node h) [ inl a ↦ g.there node a | inr b ↦ Unfolded.of_a_turn zone is role b ];
       set = g.set;
@@ -208,24 +208,24 @@ module _ {K V S T : Type 0} (m : Meanings K V S T) (lawful : IsLawful m) (task :
 
   -- ---- what is used is demanded
 
-  sure_in : (w : World K V) → Right w → (node : Node K V) (role : Role) (links : List (Link V)) (link : Link V) → Has (sure_as m role (condition_set m w links) (m.choice node.kind (condition m (reads m w) links)) links) link → Has (selected role (m.choice node.kind (condition m value links)) links) link
+  sure_in : (w : World K V) → Right w → (node : Node K V) (role : Role) (links : List (Link V)) (link : Link V) → Has (sure_as m role (condition_set m w links) (m.rows.choice node.kind (condition m (reads m w) links)) links) link → Has (selected role (m.rows.choice node.kind (condition m value links)) links) link
   sure_in w g node Plain links link h = h
   sure_in w g node File links link h = h
   sure_in w g node Zone links link h = h
   sure_in w g node Switch [] link h = h
   sure_in w g node Switch (first ∷ links) link h = by_set (is_set w first.from) refl h
     where
-      by_set : (b : Bool) → is_set w first.from ≡ b → Has (sure_as m Switch b (m.choice node.kind (reads m w first)) (first ∷ links)) link → Has (first ∷ chosen (m.choice node.kind (value first)) links) link
-      by_set true e k = subst (λ u. Has (first ∷ chosen (m.choice node.kind u) links) link) (reads_right w g first e) k
+      by_set : (b : Bool) → is_set w first.from ≡ b → Has (sure_as m Switch b (m.rows.choice node.kind (reads m w first)) (first ∷ links)) link → Has (first ∷ chosen (m.rows.choice node.kind (value first)) links) link
+      by_set true e k = subst (λ u. Has (first ∷ chosen (m.rows.choice node.kind u) links) link) (reads_right w g first e) k
       by_set false e (inl same) = inl same
       by_set false e (inr k) = absurd k
 
   pub reached_is_wanted : (w : World K V) → Right w → (x : Source V) → Reached m task w (sure m w) x → Wanted m task tells den x
   reached_is_wanted w g x (Reached.a_root link h) = Brought.a_start (link, h, refl)
   reached_is_wanted w g x (Reached.an_input node s link h r has) =
-      Brought.an_input node s link (g.there node h) (reached_is_wanted w g (an_output node.path s) r) (sure_in w g node (m.role node.kind) node.links link has)
+      Brought.an_input node s link (g.there node h) (reached_is_wanted w g (an_output node.path s) r) (sure_in w g node (m.rows.role node.kind) node.links link has)
   reached_is_wanted w g x (Reached.a_result p s outs link is r at) =
-      let z : (zone : Node K V) × Is zone × (zone.path ≡ p) × (m.role zone.kind ≡ Zone) × (outs ≡ result_links m value zone) = g.opened p outs is in
+      let z : (zone : Node K V) × Is zone × (zone.path ≡ p) × (m.rows.role zone.kind ≡ Zone) × (outs ≡ result_links m value zone) = g.opened p outs is in
       Brought.a_result z.0 s link z.1 z.3 (subst (λ q. Wanted m task tells den (an_output q s)) (sym z.2) (reached_is_wanted w g (an_output p s) r)) (subst (λ os. slice_get os s ≡ Some link) z.4 at)
 
   pub used_demanded : (w : World K V) → Right w → (node : Node K V) → Has w.graph node → Used m task w node → Demanded m task tells den node

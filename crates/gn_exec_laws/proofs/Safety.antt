@@ -1,7 +1,7 @@
 -- Over files: what is set is right, what is used is demanded, and what was taken is used.
 use Rattle.std.proofs.Common.{◌≡◌, List, Some, ◌∙◌, ap}
-use Rattle.gn_exec_laws.specs.Paths.{Path}
-use Rattle.gn_exec_laws.specs.Meanings.{Has, Node, Warning, Meanings}
+use Rattle.gn_node_set.specs.Paths.{Path}
+use Rattle.gn_node_set.specs.Meanings.{Has, Node, Warning, Meanings}
 use Rattle.gn_exec_laws.specs.Graphs.{Task, Answers, answer_of, link_value, run_of, Solves}
 use Rattle.gn_exec_laws.specs.Fits.{CanStart, IsLawful}
 use Rattle.gn_exec_laws.specs.Machine.{Event, world, IsRun, IsServed}

@@ -1,20 +1,20 @@
 -- What holds of each world that events leave, whatever the answers: all fits, and tags agree.
 use Rattle.std.proofs.Common.{◌≡◌, ◌≢◌, ◌⊎◌, inl, inr, ℕ, List, [], ◌∷◌, ◌++◌, map, Option, Some, None, true, false, refl, sym, ◌∙◌, ap, subst}
 use Rattle.std.specs.Prelude.{is_some, unwrap_or, if◌then◌else◌, slice_get, slice_index_or}
-use Rattle.gn_exec_laws.specs.Paths.{Path, zone_of, with_entry, ends_plain}
-use Rattle.gn_exec_laws.specs.Meanings.{Has, Source, a_value, an_item, an_output, Link, plain_link, along, Node, Opened, Role, Plain, Switch, File, Zone, Choice, Answer, Warning, Done, Meanings}
-use Rattle.gn_exec_laws.specs.Graphs.{Task, AllDiffer, selected, source_value, condition, choice_of, links_read, outer_link, outer_node}
+use Rattle.gn_node_set.specs.Paths.{Path, zone_of, with_entry, ends_plain}
+use Rattle.gn_node_set.specs.Meanings.{Has, Source, a_value, an_item, an_output, Link, plain_link, along, Node, Opened, Role, Plain, Switch, File, Zone, Choice, Answer, Warning, Done, Meanings, AllDiffer, selected}
+use Rattle.gn_exec_laws.specs.Graphs.{Task, source_value, condition, choice_of, links_read, outer_link, outer_node}
 use Rattle.gn_exec_laws.specs.Fits.{paths_of, is_file, shifted, HasNoTags, SourceSort, LinkSort, LinkSorts, NodeFits, CanStart, Agree, first_of, CanRun, RunsWell, OpensWell, IsLawful}
 use Rattle.gn_exec_laws.specs.Machine.{World, finished, link_now, is_there, is_set, set_outputs, reads, led_on, with_outputs, with_turns, first_world}
-use Rattle.gn_exec_laws.proofs.Lists.{some_same, held, not_both, map_append, map_map, has_first, has_either, image_of, member_at, index_at, image_at, known_by, differ_joined}
-use Rattle.gn_exec_laws.proofs.Paths.{by_path, entry_is, no_zone, turn_ends}
+use Rattle.gn_node_set.proofs.Lists.{some_same, held, not_both, map_append, map_map, has_first, has_either, image_of, member_at, index_at, image_at, known_by, differ_joined}
+use Rattle.gn_node_set.proofs.Paths.{by_path, entry_is, no_zone, turn_ends}
 use Rattle.gn_exec_laws.proofs.Sorts.{Beside, beside_selected, beside_equal, beside_of, beside_at, selected_from, shifted_joined, converted_sort, converted_tags, more_link, more_links, more_fits, each_fits, links_beside, along_sort, outer_link_sorts, outer_node_fits}
 
 module _ {K V S T : Type 0} (m : Meanings K V S T) (lawful : IsLawful m) (task : Task K V) where
   -- the node at a path has finished: its outputs are set, or its zone is opened
   abbrev pub IsDone : World K V → Path → Type 0
   IsDone w p =
-      (node : Node K V) × Has w.graph node × (node.path ≡ p) × (m.role node.kind ≢ Zone → is_some (w.set p) ≡ true) × (m.role node.kind ≡ Zone → is_some (w.opened p) ≡ true)
+      (node : Node K V) × Has w.graph node × (node.path ≡ p) × (m.rows.role node.kind ≢ Zone → is_some (w.set p) ≡ true) × (m.rows.role node.kind ≡ Zone → is_some (w.opened p) ≡ true)
 
   pub record Shape (w : World K V) : Type 0 where
     pub fit : (node : Node K V) → Has w.graph node → NodeFits m [] w.graph node
@@ -22,8 +22,8 @@ module _ {K V S T : Type 0} (m : Meanings K V S T) (lawful : IsLawful m) (task :
     pub differ : AllDiffer (paths_of w.graph)
     pub turns : (node : Node K V) (q : Path) → Has w.graph node → zone_of node.path ≡ Some q → is_some (w.opened q) ≡ true
     pub ends : (node : Node K V) → Has w.graph node → ends_plain node.path ≡ true
-    pub set : (p : Path) (vs : List V) → w.set p ≡ Some vs → (node : Node K V) × Has w.graph node × (node.path ≡ p) × (m.role node.kind ≢ Zone) × (map m.sort vs ≡ m.gives node.kind)
-    pub opened : (p : Path) (outs : List (Link V)) → w.opened p ≡ Some outs → (zone : Node K V) × Has w.graph zone × (zone.path ≡ p) × (m.role zone.kind ≡ Zone) × LinkSorts m [] w.graph outs (m.gives zone.kind)
+    pub set : (p : Path) (vs : List V) → w.set p ≡ Some vs → (node : Node K V) × Has w.graph node × (node.path ≡ p) × (m.rows.role node.kind ≢ Zone) × (map m.sort vs ≡ m.gives node.kind)
+    pub opened : (p : Path) (outs : List (Link V)) → w.opened p ≡ Some outs → (zone : Node K V) × Has w.graph zone × (zone.path ≡ p) × (m.rows.role zone.kind ≡ Zone) × LinkSorts m [] w.graph outs (m.gives zone.kind)
     pub leads : (x : Source V) (s : S) → SourceSort m [] w.graph x s → LinkSort m [] w.graph (w.leads x) s
     pub values : (v : V) → w.leads (a_value v) ≡ plain_link (a_value v)
     pub shut : (p : Path) (k : ℕ) → w.opened p ≡ None → w.leads (an_output p k) ≡ plain_link (an_output p k)
@@ -32,7 +32,7 @@ module _ {K V S T : Type 0} (m : Meanings K V S T) (lawful : IsLawful m) (task :
     pub done : (p : Path) → finished w p ≡ true → IsDone w p
     pub set_done : (p : Path) (vs : List V) → w.set p ≡ Some vs → finished w p ≡ true
     pub opened_done : (p : Path) (outs : List (Link V)) → w.opened p ≡ Some outs → finished w p ≡ true
-    pub answered : (p : Path) (a : Answer) → w.answers p ≡ Some a → (node : Node K V) × Has w.graph node × (node.path ≡ p) × (m.role node.kind ≡ File)
+    pub answered : (p : Path) (a : Answer) → w.answers p ≡ Some a → (node : Node K V) × Has w.graph node × (node.path ≡ p) × (m.rows.role node.kind ≡ File)
 
   -- ---- what is read
 
@@ -45,7 +45,7 @@ module _ {K V S T : Type 0} (m : Meanings K V S T) (lawful : IsLawful m) (task :
   source_read w g (an_item i) t h e = cc
   source_read w g (an_output p k) t h e =
       let vs : (vs : List V) × (w.set p ≡ Some vs) = held (w.set p) e in
-      let y : (node : Node K V) × Has w.graph node × (node.path ≡ p) × (m.role node.kind ≢ Zone) × (map m.sort vs.0 ≡ m.gives node.kind) = g.set p vs.0 vs.1 in
+      let y : (node : Node K V) × Has w.graph node × (node.path ≡ p) × (m.rows.role node.kind ≢ Zone) × (map m.sort vs.0 ≡ m.gives node.kind) = g.set p vs.0 vs.1 in
       let same : h.0 ≡ y.0 = known_by (λ n. n.path) w.graph g.differ h.0 y.0 h.1 y.1 (h.2 ∙ sym y.2) in
       let at : slice_get (map m.sort vs.0) k ≡ Some t = ap (λ ss. slice_get ss k) y.4 ∙ ap (λ n. slice_get (m.gives n.kind) k) (sym same) ∙ h.3 in
       let v : (v : V) × (slice_get vs.0 k ≡ Some v) × (m.sort v ≡ t) = image_at m.sort vs.0 k t at in
@@ -80,8 +80,8 @@ module _ {K V S T : Type 0} (m : Meanings K V S T) (lawful : IsLawful m) (task :
 
   -- the choice goes by the first input
   choice_same : (w : World K V) (kind : K) (role : Role) (links : List (Link V)) (sorts : List S)
-      → selected role (m.choice kind (condition m (reads m w) links)) sorts
-      ≡ selected role (m.choice kind (first_of m (map (reads m w) (selected role (m.choice kind (condition m (reads m w) links)) links)))) sorts
+      → selected role (m.rows.choice kind (condition m (reads m w) links)) sorts
+      ≡ selected role (m.rows.choice kind (first_of m (map (reads m w) (selected role (m.rows.choice kind (condition m (reads m w) links)) links)))) sorts
   choice_same w kind Plain links sorts = refl
   choice_same w kind File links sorts = refl
   choice_same w kind Zone links sorts = refl
@@ -89,15 +89,15 @@ module _ {K V S T : Type 0} (m : Meanings K V S T) (lawful : IsLawful m) (task :
   choice_same w kind Switch (link ∷ links) sorts = refl
 
   pub inputs_fit : (w : World K V) → Shape w → (node : Node K V) → Has w.graph node → IsFed w node → (f : NodeFits m [] w.graph node)
-      → map m.sort (inputs_of w node) ≡ selected (m.role node.kind) (m.choice node.kind (first_of m (inputs_of w node))) f.sorts
+      → map m.sort (inputs_of w node) ≡ selected (m.rows.role node.kind) (m.rows.choice node.kind (first_of m (inputs_of w node))) f.sorts
   inputs_fit w g node h fed f =
       let choice : Choice = choice_of m (reads m w) node in
-      let beside : Beside (LinkSort m [] w.graph) (selected (m.role node.kind) (choice_of m (reads m w) node) node.links) (selected (m.role node.kind) (choice_of m (reads m w) node) f.sorts) =
-      beside_selected (LinkSort m [] w.graph) (m.role node.kind) (choice_of m (reads m w) node) node.links f.sorts (links_beside m [] w.graph node.links f.sorts f.links) in
+      let beside : Beside (LinkSort m [] w.graph) (selected (m.rows.role node.kind) (choice_of m (reads m w) node) node.links) (selected (m.rows.role node.kind) (choice_of m (reads m w) node) f.sorts) =
+      beside_selected (LinkSort m [] w.graph) (m.rows.role node.kind) (choice_of m (reads m w) node) node.links f.sorts (links_beside m [] w.graph node.links f.sorts f.links) in
       map_map m.sort (reads m w) (links_read m (reads m w) node)
-      ∙ beside_equal (λ link. m.sort (reads m w link)) (LinkSort m [] w.graph) (links_read m (reads m w) node) (selected (m.role node.kind) (choice_of m (reads m w) node) f.sorts) beside
+      ∙ beside_equal (λ link. m.sort (reads m w link)) (LinkSort m [] w.graph) (links_read m (reads m w) node) (selected (m.rows.role node.kind) (choice_of m (reads m w) node) f.sorts) beside
       (λ link s has sort. (link_read w g link s sort (fed link has)).0)
-      ∙ choice_same w node.kind (m.role node.kind) node.links f.sorts
+      ∙ choice_same w node.kind (m.rows.role node.kind) node.links f.sorts
 
   input_from : (w : World K V) → Shape w → (node : Node K V) → Has w.graph node → IsFed w node → (u : V) → Has (inputs_of w node) u → ComesFrom w u
   input_from w g node h fed u has =
@@ -105,7 +105,7 @@ module _ {K V S T : Type 0} (m : Meanings K V S T) (lawful : IsLawful m) (task :
       let link : (link : Link V) × Has (links_read m (reads m w) node) link × (u ≡ reads m w link) = image_of (reads m w) (links_read m (reads m w) node) u has in
       let s : (s : S) × LinkSort m [] w.graph link.0 s =
       beside_of (LinkSort m [] w.graph) node.links f.sorts (links_beside m [] w.graph node.links f.sorts f.links) link.0
-      (selected_from (m.role node.kind) (choice_of m (reads m w) node) node.links link.0 link.1) in
+      (selected_from (m.rows.role node.kind) (choice_of m (reads m w) node) node.links link.0 link.1) in
       subst (ComesFrom w) (sym link.2) (link_read w g link.0 s.0 s.1 (fed link.0 link.1)).1
 
   both_agree : (w : World K V) → Shape w → (u v : V) → ComesFrom w u → ComesFrom w v → Agree m u v
@@ -122,7 +122,7 @@ module _ {K V S T : Type 0} (m : Meanings K V S T) (lawful : IsLawful m) (task :
   no_tag w g u from p not None e = refl
   no_tag w g u from p not (Some t) e = let bad : true ≡ false = sym (input_tag w g u from p t e) ∙ not in cc
 
-  pub can_run : (w : World K V) → Shape w → (node : Node K V) → Has w.graph node → IsFed w node → finished w node.path ≡ false → (answer : Option Answer) → is_some answer ≡ is_file (m.role node.kind) → CanRun m node.path node.kind (inputs_of w node) answer
+  pub can_run : (w : World K V) → Shape w → (node : Node K V) → Has w.graph node → IsFed w node → finished w node.path ≡ false → (answer : Option Answer) → is_some answer ≡ is_file (m.rows.role node.kind) → CanRun m node.path node.kind (inputs_of w node) answer
   can_run w g node h fed not answer is =
       let f : NodeFits m [] w.graph node = g.fit node h in
       record {
@@ -167,7 +167,7 @@ module _ {K V S T : Type 0} (m : Meanings K V S T) (lawful : IsLawful m) (task :
   not_opened w g p not None e = e
   not_opened w g p not (Some outs) e = let bad : true ≡ false = sym (g.opened_done p outs e) ∙ not in cc
 
-  module _ (w : World K V) (g : Shape w) (node : Node K V) (h : Has w.graph node) (fed : IsFed w node) (not : finished w node.path ≡ false) (plain : m.role node.kind ≢ Zone) (done : Done V) (well : RunsWell m node.path node.kind (inputs_of w node) done) where
+  module _ (w : World K V) (g : Shape w) (node : Node K V) (h : Has w.graph node) (fed : IsFed w node) (not : finished w node.path ≡ false) (plain : m.rows.role node.kind ≢ Zone) (done : Done V) (well : RunsWell m node.path node.kind (inputs_of w node) done) where
     abbrev w' : World K V
     w' = with_outputs m w node done
 
@@ -242,7 +242,7 @@ module _ {K V S T : Type 0} (m : Meanings K V S T) (lawful : IsLawful m) (task :
 
   -- ---- an import gets its answer
 
-  pub shape_answer : (w : World K V) → Shape w → (node : Node K V) → Has w.graph node → m.role node.kind ≡ File → (a : Answer) → Shape (record w { answers = with_entry node.path a w.answers })
+  pub shape_answer : (w : World K V) → Shape w → (node : Node K V) → Has w.graph node → m.rows.role node.kind ≡ File → (a : Answer) → Shape (record w { answers = with_entry node.path a w.answers })
   shape_answer w g node h file a = record {
     fit = g.fit;
     roots = g.roots;
@@ -264,7 +264,7 @@ module _ {K V S T : Type 0} (m : Meanings K V S T) (lawful : IsLawful m) (task :
 
   -- ---- a zone is opened
 
-  module _ (w : World K V) (g : Shape w) (zone : Node K V) (h : Has w.graph zone) (not : finished w zone.path ≡ false) (role : m.role zone.kind ≡ Zone) (opened : Opened K V) (well : OpensWell m zone.path zone.kind opened) (warnings : List Warning) where
+  module _ (w : World K V) (g : Shape w) (zone : Node K V) (h : Has w.graph zone) (not : finished w zone.path ≡ false) (role : m.rows.role zone.kind ≡ Zone) (opened : Opened K V) (well : OpensWell m zone.path zone.kind opened) (warnings : List Warning) where
     abbrev turns : List (Node K V)
     turns = map (outer_node m zone) opened.nodes
 
@@ -325,7 +325,7 @@ module _ {K V S T : Type 0} (m : Meanings K V S T) (lawful : IsLawful m) (task :
     pub turn_shut : (node : Node K V) → Has turns node → (o : Option (List (Link V))) → w.opened node.path ≡ o → w.opened node.path ≡ None
     turn_shut node k None e = e
     turn_shut node k (Some os) e =
-        let z : (z : Node K V) × Has w.graph z × (z.path ≡ node.path) × (m.role z.kind ≡ Zone) × LinkSorts m [] w.graph os (m.gives z.kind) = g.opened node.path os e in
+        let z : (z : Node K V) × Has w.graph z × (z.path ≡ node.path) × (m.rows.role z.kind ≡ Zone) × LinkSorts m [] w.graph os (m.gives z.kind) = g.opened node.path os e in
         absurd (apart z.0 node z.1 k z.2)
 
     -- where sources led before, they did so with their sorts
@@ -385,12 +385,12 @@ module _ {K V S T : Type 0} (m : Meanings K V S T) (lawful : IsLawful m) (task :
       turns = λ node q k e. turns_new node q (has_either w.graph turns node k) e;
       ends = λ node k. elim (has_either w.graph turns node k) [ inl a ↦ g.ends node a | inr b ↦ turn_ends node.path zone.path (turn_zone node b) ];
       set = λ p vs e.
-          let s : (node : Node K V) × Has w.graph node × (node.path ≡ p) × (m.role node.kind ≢ Zone) × (map m.sort vs ≡ m.gives node.kind) = g.set p vs e in
+          let s : (node : Node K V) × Has w.graph node × (node.path ≡ p) × (m.rows.role node.kind ≢ Zone) × (map m.sort vs ≡ m.gives node.kind) = g.set p vs e in
           (s.0, stays s.0 s.1, s.2, s.3, s.4);
       opened = λ p os e. elim (entry_is zone.path outs w.opened p os e) [
         | inl s ↦ (zone, stays zone h, s.0, role, subst (λ xs. LinkSorts m [] v'.graph xs (m.gives zone.kind)) s.1 outs_sorts)
         | inr s ↦
-            let z : (z : Node K V) × Has w.graph z × (z.path ≡ p) × (m.role z.kind ≡ Zone) × LinkSorts m [] w.graph os (m.gives z.kind) = g.opened p os s.1 in
+            let z : (z : Node K V) × Has w.graph z × (z.path ≡ p) × (m.rows.role z.kind ≡ Zone) × LinkSorts m [] w.graph os (m.gives z.kind) = g.opened p os s.1 in
             (z.0, stays z.0 z.1, z.2, z.3, more_links m [] w.graph v'.graph stays os (m.gives z.0.kind) z.4)
       ];
       leads = λ x s k. led_sort (w.leads x) s (led_before x s k) (w.leads x).from refl;
@@ -404,5 +404,5 @@ module _ {K V S T : Type 0} (m : Meanings K V S T) (lawful : IsLawful m) (task :
         | inl s ↦ by_path (λ t. is_some (if t then Some warnings else w.warned p) ≡ true) zone.path p (λ _. refl) (λ other. absurd (other s.0))
         | inr s ↦ finished_new p (g.opened_done p os s.1)
       ];
-      answered = λ p a e. let n : (node : Node K V) × Has w.graph node × (node.path ≡ p) × (m.role node.kind ≡ File) = g.answered p a e in (n.0, stays n.0 n.1, n.2, n.3);
+      answered = λ p a e. let n : (node : Node K V) × Has w.graph node × (node.path ≡ p) × (m.rows.role node.kind ≡ File) = g.answered p a e in (n.0, stays n.0 n.1, n.2, n.3);
     }

@@ -3,15 +3,15 @@ use Rattle.std.proofs.Common.{◌≡◌, ◌≢◌, ◌⊎◌, inl, inr, ◌<◌
 use Rattle.std.proofs.lemmas.Bool.Decides.{eqb_tells}
 use Rattle.std.specs.Prelude.{codes, ◌==◌, ◌||◌, is_some, is_none, if◌then◌else◌, slice_get}
 use Rattle.gn_lazy.specs.declared.path.PathStep.{PathStep}
-use Rattle.gn_exec_laws.specs.Paths.{Path, same_path, ends_plain, zone_of, has_turn}
-use Rattle.gn_exec_laws.specs.Meanings.{Has, Source, a_value, an_item, an_output, Link, plain_link, Node, Opened, Role, Plain, Switch, File, Zone, Choice, First, Second, Both, Answer, Whole, Absent, TooLong, Warning, Meanings}
+use Rattle.gn_node_set.specs.Paths.{Path, same_path, ends_plain, zone_of, has_turn}
+use Rattle.gn_node_set.specs.Meanings.{Has, Source, a_value, an_item, an_output, Link, plain_link, Node, Opened, Role, Plain, Switch, File, Zone, Choice, one_case, all_cases, Answer, Whole, Absent, TooLong, Warning, Rows, Meanings}
 use Rattle.gn_exec_laws.specs.Graphs.{Task, told_by}
 use Rattle.gn_exec_laws.specs.Fits.{paths_of, CanStart, RunsWell, OpensWell, IsLawful, SourceSort, shifted}
-use Rattle.gn_exec_laws.specs.Claims.{IsOver, taken_nodes}
+use Rattle.gn_exec_laws.specs.Claims.{serves, IsOver, taken_nodes}
 use Rattle.gn_exec_laws.proofs.Kept.{IsTakenWell, kept}
-use Rattle.gn_exec_laws.proofs.Lists.{some_same, not_both}
-use Rattle.gn_exec_laws.proofs.Paths.{by_path, entry_is}
-use Rattle.gn_exec_laws.specs.Machine.{Event, Take, Finish, Serve, Refuse, World, world, reads, is_set, sure, possible, Reached, Used, NoRefusals, Allowed, IsRun, IsServed}
+use Rattle.gn_node_set.proofs.Lists.{some_same, not_both}
+use Rattle.gn_node_set.proofs.Paths.{by_path, entry_is}
+use Rattle.gn_exec_laws.specs.Machine.{Event, Take, Finish, Serve, Refuse, World, world, reads, run_now, is_set, sure, possible, Reached, Used, NoRefusals, Allowed, IsRun, IsServed}
 
 -- adding two numbers, choosing one of two, the length of a file, and a zone whose one turn adds 10
 pub data Kind : Type 0 where
@@ -40,9 +40,9 @@ file_of _ = []
 
 -- a condition of 0 chooses the first value, one of 1 the second, and a greater one asks for both
 abbrev choice_by : ℕ → Choice
-choice_by zero = First
-choice_by (suc zero) = Second
-choice_by (suc (suc n)) = Both
+choice_by zero = one_case 0
+choice_by (suc zero) = one_case 1
+choice_by (suc (suc n)) = all_cases
 
 abbrev length_of : Option Answer → ℕ
 length_of (Some (Whole bytes)) = length bytes
@@ -95,15 +95,21 @@ abbrev tag_of : Option Path → Path → Option ℕ
 tag_of None p = None
 tag_of (Some q) p = if same_path q p then Some 0 else None
 
-abbrev pub small : Meanings Kind Value ℕ ℕ
-small = record {
+abbrev small_rows : Rows Kind Value
+small_rows = record {
   role = role_of;
   file = file_of;
   choice = λ kind c. choice_by c.number;
   row = λ p kind vs answer. record { outputs = record { number = number_of_row kind vs answer; maker = maker_by kind p vs } ∷ []; warnings = warned_by kind p answer };
-  opens = λ p kind count. opened_by_count p count.number;
+  turns = λ kind count. count.number;
   -- a conversion to the kind k adds k
   convert = λ v kind. record { number = v.number + kind; maker = v.maker };
+}
+
+abbrev pub small : Meanings Kind Value ℕ ℕ
+small = record {
+  rows = small_rows;
+  opens = λ p kind count. opened_by_count p count.number;
   sort = λ v. 0;
   shift = λ s kind. Some s;
   fits = λ kind sorts. true;
@@ -143,11 +149,21 @@ row_tags p repeats vs q t e = inr (input_tag vs q t e)
 one_source : (o : Option Path) (p : Path) (s t : ℕ) → tag_of o p ≡ Some s → tag_of o p ≡ Some t → s ≡ t
 one_source o p s t e f = some_same (sym e ∙ f)
 
-runs_well : (p : Path) (kind : Kind) (vs : List Value) (answer : Option Answer) → RunsWell small p kind vs (small.row p kind vs answer)
+own_warning : (p : Path) (kind : Kind) (answer : Option Answer) (x : Warning) → Has (warned_by kind p answer) x → x.path ≡ p
+own_warning p (measures file) (Some Absent) x h = elim h [ inl same ↦ ap (λ y. y.path) same | inr z ↦ absurd z ]
+own_warning p (measures file) (Some TooLong) x h = elim h [ inl same ↦ ap (λ y. y.path) same | inr z ↦ absurd z ]
+own_warning p (measures file) (Some (Whole bytes)) x h = absurd h
+own_warning p (measures file) None x h = absurd h
+own_warning p adds answer x h = absurd h
+own_warning p chooses answer x h = absurd h
+own_warning p repeats answer x h = absurd h
+
+runs_well : (p : Path) (kind : Kind) (vs : List Value) (answer : Option Answer) → RunsWell small p kind vs (small_rows.row p kind vs answer)
 runs_well p kind vs answer = record {
   sorts = λ _. refl;
   count = λ _. (record { number = number_of_row kind vs answer; maker = maker_by kind p vs }, refl);
   tags = λ v h q t e. elim h [ inl same ↦ row_tags p kind vs q t (ap (λ u. tag_of u.maker q) (sym same) ∙ e) | inr z ↦ absurd z ];
+  warns = own_warning p kind answer;
   agree = λ u v h k q s t e f. elim h [
     | inl same ↦ elim k [
       | inl same' ↦ one_source (maker_by kind p vs) q s t (ap (λ x. tag_of x.maker q) (sym same) ∙ e) (ap (λ x. tag_of x.maker q) (sym same') ∙ f)
@@ -621,3 +637,13 @@ the_demand = refl
 
 the_count : length events ≡ 4 + 4 + 1
 the_count = refl
+
+the_served : serves events ≡ 0 ∷ []
+the_served = refl
+
+-- the zone's output leads to the node of its turn, and the import has what its run gives by what is read now
+the_zone_leads : (after events).leads (an_output (here 1) 0) ≡ plain_link (an_output in_turn 0)
+the_zone_leads = refl
+
+the_import_gives : (after events).set (here 0) ≡ Some (run_now small (after events) the_import).outputs
+the_import_gives = refl

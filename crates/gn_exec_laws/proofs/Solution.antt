@@ -1,12 +1,12 @@
 -- The equations of the nodes have one solution, and its demand can be listed.
 use Rattle.std.proofs.Common.{◌≡◌, ◌≢◌, inl, ℕ, List, [], ◌∷◌, map, Option, Some, None, true, refl, sym, ◌∙◌, ap, subst}
 use Rattle.std.specs.Prelude.{unwrap_or, slice_get, slice_index_or}
-use Rattle.gn_exec_laws.specs.Paths.{Path}
-use Rattle.gn_exec_laws.specs.Meanings.{Has, Source, a_value, an_item, an_output, Link, Node, Role, Plain, Switch, File, Zone, Answer, Meanings}
-use Rattle.gn_exec_laws.specs.Graphs.{Task, selected, converted, source_value, link_value, condition, links_read, run_of, outer_link, outer_node, turn_nodes, result_links, Answers, answer_of, Unfolded, Solves}
+use Rattle.gn_node_set.specs.Paths.{Path}
+use Rattle.gn_node_set.specs.Meanings.{Has, Source, a_value, an_item, an_output, Link, Node, Role, Plain, Switch, File, Zone, Answer, Meanings, selected, converted}
+use Rattle.gn_exec_laws.specs.Graphs.{Task, source_value, link_value, condition, links_read, run_of, outer_link, outer_node, turn_nodes, result_links, Answers, answer_of, Unfolded, Solves}
 use Rattle.gn_exec_laws.specs.Fits.{SourceSort, LinkSort, LinkSorts, NodeFits, CanStart, IsLawful}
 use Rattle.gn_exec_laws.specs.Machine.{World, is_set, set_outputs, reads, first_world}
-use Rattle.gn_exec_laws.proofs.Lists.{index_at, at_image, map_equal, known_by}
+use Rattle.gn_node_set.proofs.Lists.{index_at, at_image, map_equal, known_by}
 use Rattle.gn_exec_laws.proofs.Sorts.{beside_of, beside_at, links_beside, selected_from, converted_joined}
 use Rattle.gn_exec_laws.proofs.Shapes.{Shape}
 use Rattle.gn_exec_laws.proofs.Order.{Ordered}
@@ -42,32 +42,32 @@ module _ {K V S T : Type 0} (m : Meanings K V S T) (lawful : IsLawful m) (task :
   one_node : (x y : Node K V) → Has v.graph x → Has v.graph y → x.path ≡ y.path → x ≡ y
   one_node x y h k e = known_by (λ n. n.path) v.graph shape.differ x y h k e
 
-  plain_shut : (node : Node K V) → Has v.graph node → m.role node.kind ≢ Zone → (o : Option (List (Link V))) → v.opened node.path ≡ o → v.opened node.path ≡ None
+  plain_shut : (node : Node K V) → Has v.graph node → m.rows.role node.kind ≢ Zone → (o : Option (List (Link V))) → v.opened node.path ≡ o → v.opened node.path ≡ None
   plain_shut node h plain None e = e
   plain_shut node h plain (Some outs) e =
-      let z : (z : Node K V) × Has v.graph z × (z.path ≡ node.path) × (m.role z.kind ≡ Zone) × LinkSorts m [] v.graph outs (m.gives z.kind) = shape.opened node.path outs e in
-      absurd (plain (ap (λ n. m.role n.kind) (sym (one_node z.0 node z.1 h z.2)) ∙ z.3))
+      let z : (z : Node K V) × Has v.graph z × (z.path ≡ node.path) × (m.rows.role z.kind ≡ Zone) × LinkSorts m [] v.graph outs (m.gives z.kind) = shape.opened node.path outs e in
+      absurd (plain (ap (λ n. m.rows.role n.kind) (sym (one_node z.0 node z.1 h z.2)) ∙ z.3))
 
-  out_sorts : (zone : Node K V) → Has v.graph zone → m.role zone.kind ≡ Zone → LinkSorts m [] v.graph (result_links m (reads m v) zone) (m.gives zone.kind)
+  out_sorts : (zone : Node K V) → Has v.graph zone → m.rows.role zone.kind ≡ Zone → LinkSorts m [] v.graph (result_links m (reads m v) zone) (m.gives zone.kind)
   out_sorts zone h role =
-      let z : (z : Node K V) × Has v.graph z × (z.path ≡ zone.path) × (m.role z.kind ≡ Zone) × LinkSorts m [] v.graph (result_links m (reads m v) zone) (m.gives z.kind) =
+      let z : (z : Node K V) × Has v.graph z × (z.path ≡ zone.path) × (m.rows.role z.kind ≡ Zone) × LinkSorts m [] v.graph (result_links m (reads m v) zone) (m.gives z.kind) =
       shape.opened zone.path (result_links m (reads m v) zone) (ic.fine.solved.zones zone h (ic.done zone h) role) in
       subst (λ n. LinkSorts m [] v.graph (result_links m (reads m v) zone) (m.gives n.kind)) (one_node z.0 zone z.1 h z.2) z.4
 
-  out_sort : (zone : Node K V) → Has v.graph zone → m.role zone.kind ≡ Zone → (link : Link V) → Has (result_links m (reads m v) zone) link → (s : S) × LinkSort m [] v.graph link s
+  out_sort : (zone : Node K V) → Has v.graph zone → m.rows.role zone.kind ≡ Zone → (link : Link V) → Has (result_links m (reads m v) zone) link → (s : S) × LinkSort m [] v.graph link s
   out_sort zone h role link has = beside_of (LinkSort m [] v.graph) (result_links m (reads m v) zone) (m.gives zone.kind) (links_beside m [] v.graph (result_links m (reads m v) zone) (m.gives zone.kind) (out_sorts zone h role)) link has
 
   -- ---- the solution has the values that are read
 
-  zone_solution : (zone : Node K V) → Has v.graph zone → m.role zone.kind ≡ Zone → solution zone.path ≡ map (reads m v) (result_links m (reads m v) zone)
+  zone_solution : (zone : Node K V) → Has v.graph zone → m.rows.role zone.kind ≡ Zone → solution zone.path ≡ map (reads m v) (result_links m (reads m v) zone)
   unfolding solution value_at
   zone_solution zone h role = ap (λ o. value_at o (set_outputs m v zone.path)) (ic.fine.solved.zones zone h (ic.done zone h) role)
 
-  plain_solution : (node : Node K V) → Has v.graph node → m.role node.kind ≢ Zone → solution node.path ≡ set_outputs m v node.path
+  plain_solution : (node : Node K V) → Has v.graph node → m.rows.role node.kind ≢ Zone → solution node.path ≡ set_outputs m v node.path
   unfolding solution value_at
   plain_solution node h plain = ap (λ o. value_at o (set_outputs m v node.path)) (plain_shut node h plain (v.opened node.path) refl)
 
-  output_right : (node : Node K V) → Has v.graph node → (k : ℕ) (s : S) → slice_get (m.gives node.kind) k ≡ Some s → (role : Role) → m.role node.kind ≡ role → source_value m solution (an_output node.path k) ≡ link_value m (set_outputs m v) (v.leads (an_output node.path k))
+  output_right : (node : Node K V) → Has v.graph node → (k : ℕ) (s : S) → slice_get (m.gives node.kind) k ≡ Some s → (role : Role) → m.rows.role node.kind ≡ role → source_value m solution (an_output node.path k) ≡ link_value m (set_outputs m v) (v.leads (an_output node.path k))
   output_right node h k s at Zone is =
       let outs : List (Link V) = result_links m (reads m v) node in
       let link : (link : Link V) × (slice_get (result_links m (reads m v) node) k ≡ Some link) × LinkSort m [] v.graph link s =
@@ -77,14 +77,14 @@ module _ {K V S T : Type 0} (m : Meanings K V S T) (lawful : IsLawful m) (task :
       ∙ ap (link_value m (set_outputs m v)) (sym (order.opens node.path k (result_links m (reads m v) node) link.0 (ic.fine.solved.zones node h (ic.done node h) is) link.1))
   output_right node h k s at Plain is = plain_right node h k (λ z. let bad : Plain ≡ Zone = sym is ∙ z in cc)
     where
-      plain_right : (node : Node K V) → Has v.graph node → (k : ℕ) → m.role node.kind ≢ Zone → source_value m solution (an_output node.path k) ≡ link_value m (set_outputs m v) (v.leads (an_output node.path k))
+      plain_right : (node : Node K V) → Has v.graph node → (k : ℕ) → m.rows.role node.kind ≢ Zone → source_value m solution (an_output node.path k) ≡ link_value m (set_outputs m v) (v.leads (an_output node.path k))
       plain_right node h k plain =
           ap (λ vs. slice_index_or vs k m.nothing) (plain_solution node h plain) ∙ ap (link_value m (set_outputs m v)) (sym (shape.shut node.path k (plain_shut node h plain (v.opened node.path) refl)))
   output_right node h k s at Switch is =
-      let plain : m.role node.kind ≢ Zone = λ z. let bad : Switch ≡ Zone = sym is ∙ z in cc in
+      let plain : m.rows.role node.kind ≢ Zone = λ z. let bad : Switch ≡ Zone = sym is ∙ z in cc in
       ap (λ vs. slice_index_or vs k m.nothing) (plain_solution node h plain) ∙ ap (link_value m (set_outputs m v)) (sym (shape.shut node.path k (plain_shut node h plain (v.opened node.path) refl)))
   output_right node h k s at File is =
-      let plain : m.role node.kind ≢ Zone = λ z. let bad : File ≡ Zone = sym is ∙ z in cc in
+      let plain : m.rows.role node.kind ≢ Zone = λ z. let bad : File ≡ Zone = sym is ∙ z in cc in
       ap (λ vs. slice_index_or vs k m.nothing) (plain_solution node h plain) ∙ ap (link_value m (set_outputs m v)) (sym (shape.shut node.path k (plain_shut node h plain (v.opened node.path) refl)))
 
   source_right : (y : Source V) (s : S) → SourceSort m [] v.graph y s → source_value m solution y ≡ link_value m (set_outputs m v) (v.leads y)
@@ -92,7 +92,7 @@ module _ {K V S T : Type 0} (m : Meanings K V S T) (lawful : IsLawful m) (task :
   source_right (an_item i) s h = cc
   source_right (an_output p k) s h =
       subst (λ q. source_value m solution (an_output q k) ≡ link_value m (set_outputs m v) (v.leads (an_output q k))) h.2
-      (output_right h.0 h.1 k s h.3 (m.role h.0.kind) refl)
+      (output_right h.0 h.1 k s h.3 (m.rows.role h.0.kind) refl)
 
   -- the links of the complete world have the values that are read in it
   abbrev pub Agrees : (Path → List V) → Type 0
@@ -100,7 +100,7 @@ module _ {K V S T : Type 0} (m : Meanings K V S T) (lawful : IsLawful m) (task :
 
   pub solution_agrees : Agrees solution
   solution_agrees link s h =
-      ap (λ u. converted m u link.through) (source_right link.from h.0 h.1) ∙ sym (converted_joined m (source_value m (set_outputs m v) (v.leads link.from).from) (v.leads link.from).through link.through)
+      ap (λ u. converted m.rows u link.through) (source_right link.from h.0 h.1) ∙ sym (converted_joined m (source_value m (set_outputs m v) (v.leads link.from).from) (v.leads link.from).through link.through)
 
   module _ (den : Path → List V) (agrees : Agrees den) where
     abbrev value : Link V → V
@@ -110,21 +110,21 @@ module _ {K V S T : Type 0} (m : Meanings K V S T) (lawful : IsLawful m) (task :
     node_agrees node h link has = let s : (s : S) × LinkSort m [] v.graph link s = link_sort node h link has in agrees link s.0 s.1
 
     selected_same : (node : Node K V) (role : Role) (links : List (Link V)) → ((link : Link V) → Has links link → value link ≡ reads m v link)
-        → selected role (m.choice node.kind (condition m value links)) links ≡ selected role (m.choice node.kind (condition m (reads m v) links)) links
+        → selected role (m.rows.choice node.kind (condition m value links)) links ≡ selected role (m.rows.choice node.kind (condition m (reads m v) links)) links
     selected_same node Plain links same = refl
     selected_same node File links same = refl
     selected_same node Zone links same = refl
     selected_same node Switch [] same = refl
-    selected_same node Switch (link ∷ links) same = ap (λ u. selected Switch (m.choice node.kind u) (link ∷ links)) (same link (inl refl))
+    selected_same node Switch (link ∷ links) same = ap (λ u. selected Switch (m.rows.choice node.kind u) (link ∷ links)) (same link (inl refl))
 
     pub reads_same : (node : Node K V) → Has v.graph node → links_read m value node ≡ links_read m (reads m v) node
-    reads_same node h = selected_same node (m.role node.kind) node.links (node_agrees node h)
+    reads_same node h = selected_same node (m.rows.role node.kind) node.links (node_agrees node h)
 
     run_same : (node : Node K V) → Has v.graph node → (answer : Option Answer) → run_of m value answer node ≡ run_of m (reads m v) answer node
     run_same node h answer =
-        ap (λ vs. m.row node.path node.kind vs answer)
+        ap (λ vs. m.rows.row node.path node.kind vs answer)
         (ap (map value) (reads_same node h)
-        ∙ map_equal value (reads m v) (links_read m (reads m v) node) (λ link has. node_agrees node h link (selected_from (m.role node.kind) (m.choice node.kind (condition m (reads m v) node.links)) node.links link has)))
+        ∙ map_equal value (reads m v) (links_read m (reads m v) node) (λ link has. node_agrees node h link (selected_from (m.rows.role node.kind) (m.rows.choice node.kind (condition m (reads m v) node.links)) node.links link has)))
 
     pub results_same : (zone : Node K V) → Has v.graph zone → result_links m value zone ≡ result_links m (reads m v) zone
     results_same zone h = ap (λ d. map (outer_link m zone) (m.opens zone.path zone.kind (slice_index_or d.outputs 0 m.nothing)).outputs) (run_same zone h None)
@@ -139,13 +139,13 @@ module _ {K V S T : Type 0} (m : Meanings K V S T) (lawful : IsLawful m) (task :
         let k : Has v.graph zone = stands_there zone z in
         ic.fine.solved.turns zone node k (ic.done zone k) role (subst (λ ns. Has ns node) (turns_same zone k) h)
 
-    row_value : (node : Node K V) → Has v.graph node → m.role node.kind ≢ Zone → solution node.path ≡ (run_of m value (answer_of m tells node) node).outputs
+    row_value : (node : Node K V) → Has v.graph node → m.rows.role node.kind ≢ Zone → solution node.path ≡ (run_of m value (answer_of m tells node) node).outputs
     row_value node h plain =
         plain_solution node h plain
         ∙ ap (λ o. unwrap_or o []) (ic.fine.solved.rows node h (ic.done node h) plain)
         ∙ ap (λ d. d.outputs) (sym (run_same node h (answer_of m tells node)))
 
-    zone_value : (node : Node K V) → Has v.graph node → m.role node.kind ≡ Zone → solution node.path ≡ map value (result_links m value node)
+    zone_value : (node : Node K V) → Has v.graph node → m.rows.role node.kind ≡ Zone → solution node.path ≡ map value (result_links m value node)
     zone_value node h role =
         zone_solution node h role
         ∙ sym (map_equal value (reads m v) (result_links m (reads m v) node) (λ link has. let s : (s : S) × LinkSort m [] v.graph link s = out_sort node h role link has in agrees link s.0 s.1))
@@ -170,18 +170,18 @@ module _ {K V S T : Type 0} (m : Meanings K V S T) (lawful : IsLawful m) (task :
     pub agrees_any : Agrees den
     agrees_any link s h = sym (reads_right m lawful task c tells den v complete_right link (link_set link s h))
 
-    by_role : (node : Node K V) → Unfolded m task tells den node → (role : Role) → m.role node.kind ≡ role → den node.path ≡ solution node.path
+    by_role : (node : Node K V) → Unfolded m task tells den node → (role : Role) → m.rows.role node.kind ≡ role → den node.path ≡ solution node.path
     by_role node there Zone is = solves.zones node there is ∙ sym (zone_value den agrees_any node (stands_there den agrees_any node there) is)
     by_role node there Plain is =
-        let plain : m.role node.kind ≢ Zone = λ z. let bad : Plain ≡ Zone = sym is ∙ z in cc in
+        let plain : m.rows.role node.kind ≢ Zone = λ z. let bad : Plain ≡ Zone = sym is ∙ z in cc in
         solves.rows node there plain ∙ sym (row_value den agrees_any node (stands_there den agrees_any node there) plain)
     by_role node there Switch is =
-        let plain : m.role node.kind ≢ Zone = λ z. let bad : Switch ≡ Zone = sym is ∙ z in cc in
+        let plain : m.rows.role node.kind ≢ Zone = λ z. let bad : Switch ≡ Zone = sym is ∙ z in cc in
         solves.rows node there plain ∙ sym (row_value den agrees_any node (stands_there den agrees_any node there) plain)
     by_role node there File is =
-        let plain : m.role node.kind ≢ Zone = λ z. let bad : File ≡ Zone = sym is ∙ z in cc in
+        let plain : m.rows.role node.kind ≢ Zone = λ z. let bad : File ≡ Zone = sym is ∙ z in cc in
         solves.rows node there plain ∙ sym (row_value den agrees_any node (stands_there den agrees_any node there) plain)
 
     -- each solution gives the same outputs
     pub one_solution : (node : Node K V) → Unfolded m task tells den node → den node.path ≡ solution node.path
-    one_solution node there = by_role node there (m.role node.kind) refl
+    one_solution node there = by_role node there (m.rows.role node.kind) refl

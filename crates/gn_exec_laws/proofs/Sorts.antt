@@ -1,11 +1,11 @@
 -- Sorts of links and values, and how they go through conversions and into zones.
 use Rattle.std.proofs.Common.{◌≡◌, inl, inr, ℕ, zero, suc, List, [], ◌∷◌, ◌++◌, map, Option, Some, None, refl, sym, ◌∙◌, ap, subst}
 use Rattle.std.specs.Prelude.{slice_get, slice_index_or, option_and_then}
-use Rattle.gn_exec_laws.specs.Paths.{Path}
-use Rattle.gn_exec_laws.specs.Meanings.{Has, Source, a_value, an_item, an_output, Link, plain_link, along, Node, Role, Plain, Switch, File, Zone, Choice, First, Second, Both, Meanings}
-use Rattle.gn_exec_laws.specs.Graphs.{head_of, tail_of, chosen, selected, converted, outer_source, outer_link, outer_node}
+use Rattle.gn_node_set.specs.Paths.{Path}
+use Rattle.gn_node_set.specs.Meanings.{Has, Source, a_value, an_item, an_output, Link, plain_link, along, Node, Role, Plain, Switch, File, Zone, Choice, one_case, all_cases, no_case, member, Meanings, head_of, tail_of, chosen, selected, converted}
+use Rattle.gn_exec_laws.specs.Graphs.{outer_source, outer_link, outer_node}
 use Rattle.gn_exec_laws.specs.Fits.{shifted, SourceSort, LinkSort, LinkSorts, HasItems, NodeFits, NodesFit, IsLawful}
-use Rattle.gn_exec_laws.proofs.Lists.{some_same, append_assoc, has_first, has_second, has_image, index_at, append_nil, map_append}
+use Rattle.gn_node_set.proofs.Lists.{some_same, append_assoc, has_first, has_second, has_image, index_at, append_nil, map_append}
 
 -- ---- lists side by side
 
@@ -22,16 +22,17 @@ module _ {A B : Type 0} (R : A → B → Type 0) where
   beside_head [] (y ∷ ys) b = absurd b
   beside_head (x ∷ xs) [] b = absurd b
 
-  beside_tail : (xs : List A) (ys : List B) → Beside xs ys → Beside (tail_of xs) (tail_of ys)
-  beside_tail [] [] b = b
-  beside_tail (x ∷ xs) (y ∷ ys) b = b.1
-  beside_tail [] (y ∷ ys) b = absurd b
-  beside_tail (x ∷ xs) [] b = absurd b
+  beside_member : (n : ℕ) (xs : List A) (ys : List B) → Beside xs ys → Beside (member xs n) (member ys n)
+  beside_member n [] [] b = tt
+  beside_member zero (x ∷ xs) (y ∷ ys) b = (b.0, tt)
+  beside_member (suc n) (x ∷ xs) (y ∷ ys) b = beside_member n xs ys b.1
+  beside_member n [] (y ∷ ys) b = absurd b
+  beside_member n (x ∷ xs) [] b = absurd b
 
   beside_chosen : (choice : Choice) (xs : List A) (ys : List B) → Beside xs ys → Beside (chosen choice xs) (chosen choice ys)
-  beside_chosen First xs ys b = beside_head xs ys b
-  beside_chosen Second xs ys b = beside_head (tail_of xs) (tail_of ys) (beside_tail xs ys b)
-  beside_chosen Both xs ys b = b
+  beside_chosen (one_case n) xs ys b = beside_member n xs ys b
+  beside_chosen all_cases xs ys b = b
+  beside_chosen no_case xs ys b = tt
 
   pub beside_selected : (role : Role) (choice : Choice) (xs : List A) (ys : List B) → Beside xs ys → Beside (selected role choice xs) (selected role choice ys)
   beside_selected Plain choice xs ys b = b
@@ -73,10 +74,16 @@ pub tail_from : {A : Type 0} (xs : List A) (x : A) → Has (tail_of xs) x → Ha
 tail_from [] x h = h
 tail_from (y ∷ xs) x h = inr h
 
+member_from : {A : Type 0} (n : ℕ) (xs : List A) (x : A) → Has (member xs n) x → Has xs x
+member_from n [] x h = absurd h
+member_from zero (y ∷ xs) x (inl e) = inl e
+member_from zero (y ∷ xs) x (inr h) = absurd h
+member_from (suc n) (y ∷ xs) x h = inr (member_from n xs x h)
+
 chosen_from : {A : Type 0} (choice : Choice) (xs : List A) (x : A) → Has (chosen choice xs) x → Has xs x
-chosen_from First xs x h = head_from xs x h
-chosen_from Second xs x h = tail_from xs x (head_from (tail_of xs) x h)
-chosen_from Both xs x h = h
+chosen_from (one_case n) xs x h = member_from n xs x h
+chosen_from all_cases xs x h = h
+chosen_from no_case xs x h = absurd h
 
 -- what is selected stands in the list
 pub selected_from : {A : Type 0} (role : Role) (choice : Choice) (xs : List A) (x : A) → Has (selected role choice xs) x → Has xs x
@@ -90,9 +97,9 @@ selected_from Switch choice (y ∷ xs) x (inr h) = inr (chosen_from choice xs x 
 module _ {K V S T : Type 0} (m : Meanings K V S T) where
   -- ---- conversions
 
-  pub converted_joined : (v : V) (ks ls : List ℕ) → converted m v (ks ++ ls) ≡ converted m (converted m v ks) ls
+  pub converted_joined : (v : V) (ks ls : List ℕ) → converted m.rows v (ks ++ ls) ≡ converted m.rows (converted m.rows v ks) ls
   converted_joined v [] ls = refl
-  converted_joined v (k ∷ ks) ls = converted_joined (m.convert v k) ks ls
+  converted_joined v (k ∷ ks) ls = converted_joined (m.rows.convert v k) ks ls
 
   -- a step of a conversion that has a sort has one
   first_shift : (o : Option S) (ks : List ℕ) (t : S) → option_and_then (λ u. shifted m u ks) o ≡ Some t → (u : S) × (o ≡ Some u) × (shifted m u ks ≡ Some t)
@@ -106,17 +113,17 @@ module _ {K V S T : Type 0} (m : Meanings K V S T) where
       subst (λ o. option_and_then (λ u. shifted m u (ks ++ ls)) o ≡ Some t) (sym u.1) (shifted_joined u.0 s t ks ls u.2 f)
 
   module _ (lawful : IsLawful m) where
-    pub converted_sort : (v : V) (s : S) (ks : List ℕ) → shifted m (m.sort v) ks ≡ Some s → m.sort (converted m v ks) ≡ s
+    pub converted_sort : (v : V) (s : S) (ks : List ℕ) → shifted m (m.sort v) ks ≡ Some s → m.sort (converted m.rows v ks) ≡ s
     converted_sort v s [] e = some_same e
     converted_sort v s (k ∷ ks) e =
         let f : (u : S) × (m.shift (m.sort v) k ≡ Some u) × (shifted m u ks ≡ Some s) = first_shift (m.shift (m.sort v) k) ks s e in
-        converted_sort (m.convert v k) s ks (subst (λ u. shifted m u ks ≡ Some s) (sym (lawful.conversion_sorts v k f.0 f.1)) f.2)
+        converted_sort (m.rows.convert v k) s ks (subst (λ u. shifted m u ks ≡ Some s) (sym (lawful.conversion_sorts v k f.0 f.1)) f.2)
 
-    pub converted_tags : (v : V) (s : S) (ks : List ℕ) → shifted m (m.sort v) ks ≡ Some s → (p : Path) → m.tag (converted m v ks) p ≡ m.tag v p
+    pub converted_tags : (v : V) (s : S) (ks : List ℕ) → shifted m (m.sort v) ks ≡ Some s → (p : Path) → m.tag (converted m.rows v ks) p ≡ m.tag v p
     converted_tags v s [] e p = refl
     converted_tags v s (k ∷ ks) e p =
         let f : (u : S) × (m.shift (m.sort v) k ≡ Some u) × (shifted m u ks ≡ Some s) = first_shift (m.shift (m.sort v) k) ks s e in
-        converted_tags (m.convert v k) s ks (subst (λ u. shifted m u ks ≡ Some s) (sym (lawful.conversion_sorts v k f.0 f.1)) f.2) p ∙ lawful.conversion_tags v k f.0 f.1 p
+        converted_tags (m.rows.convert v k) s ks (subst (λ u. shifted m u ks ≡ Some s) (sym (lawful.conversion_sorts v k f.0 f.1)) f.2) p ∙ lawful.conversion_tags v k f.0 f.1 p
 
   -- ---- sorts where there are more nodes
 
@@ -165,7 +172,7 @@ module _ {K V S T : Type 0} (m : Meanings K V S T) where
   -- ---- inside a zone
 
   -- a zone's items have the sorts of its outputs
-  item_sort : (ns : List (Node K V)) (zone : Node K V) → m.role zone.kind ≡ Zone → NodeFits m [] ns zone → (i : ℕ) (s : S) → slice_get (m.gives zone.kind) i ≡ Some s → LinkSort m [] ns (outer_source m zone (an_item i)) s
+  item_sort : (ns : List (Node K V)) (zone : Node K V) → m.rows.role zone.kind ≡ Zone → NodeFits m [] ns zone → (i : ℕ) (s : S) → slice_get (m.gives zone.kind) i ≡ Some s → LinkSort m [] ns (outer_source m zone (an_item i)) s
   item_sort ns zone role f i s at = by_links zone.links f.sorts f.links (subst (λ r. HasItems m r zone.kind f.sorts) role f.kind.items)
     where
       by_links : (links : List (Link V)) (sorts : List S) → LinkSorts m [] ns links sorts → (head : S) × (sorts ≡ head ∷ m.gives zone.kind) → LinkSort m [] ns (slice_index_or (tail_of links) i (plain_link (a_value m.nothing))) s
@@ -178,7 +185,7 @@ module _ {K V S T : Type 0} (m : Meanings K V S T) where
           beside_at (LinkSort m [] ns) links sorts (links_beside [] ns links sorts h.1) i s (subst (λ ss. slice_get ss i ≡ Some s) (sym same) at) in
           subst (λ l. LinkSort m [] ns l s) (sym (index_at links i (plain_link (a_value m.nothing)) found.0 found.1)) found.2
 
-  module _ (ns : List (Node K V)) (zone : Node K V) (role : m.role zone.kind ≡ Zone) (f : NodeFits m [] ns zone) (inner : List (Node K V)) where
+  module _ (ns : List (Node K V)) (zone : Node K V) (role : m.rows.role zone.kind ≡ Zone) (f : NodeFits m [] ns zone) (inner : List (Node K V)) where
     abbrev pub grown : List (Node K V)
     grown = ns ++ map (outer_node m zone) inner
 
@@ -201,7 +208,7 @@ module _ {K V S T : Type 0} (m : Meanings K V S T) where
     outer_node_fits node g = record { sorts = g.sorts; links = outer_link_sorts node.links g.sorts g.links; kind = g.kind }
 
   -- the nodes inside a zone fit behind those of the graph
-  pub outer_nodes_fit : (ds : List (Node K V)) (zone : Node K V) → m.role zone.kind ≡ Zone → NodeFits m [] ds zone → (inner rest : List (Node K V)) → NodesFit m (m.gives zone.kind) inner rest → NodesFit m [] (ds ++ map (outer_node m zone) inner) (map (outer_node m zone) rest)
+  pub outer_nodes_fit : (ds : List (Node K V)) (zone : Node K V) → m.rows.role zone.kind ≡ Zone → NodeFits m [] ds zone → (inner rest : List (Node K V)) → NodesFit m (m.gives zone.kind) inner rest → NodesFit m [] (ds ++ map (outer_node m zone) inner) (map (outer_node m zone) rest)
   outer_nodes_fit ds zone role fit inner [] g = tt
   outer_nodes_fit ds zone role fit inner (n ∷ rest) g = (
     outer_node_fits ds zone role fit inner n g.0,

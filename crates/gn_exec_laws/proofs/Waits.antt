@@ -2,13 +2,13 @@
 use Rattle.std.proofs.Common.{◌≡◌, ◌≢◌, ◌⊎◌, inl, inr, ℕ, List, [], ◌∷◌, Option, Some, None, Bool, true, false, refl, sym, ◌∙◌, ap, subst}
 use Rattle.std.specs.Prelude.{slice_get}
 use Rattle.std.proofs.lemmas.Bool.Decides.{eqb_tells}
-use Rattle.gn_exec_laws.specs.Paths.{Path}
-use Rattle.gn_exec_laws.specs.Meanings.{Has, Source, an_output, Link, Node, Role, Plain, Switch, File, Zone, Choice, Answer, Meanings}
-use Rattle.gn_exec_laws.specs.Graphs.{Task, tail_of, chosen, selected, link_value, condition, choice_of, links_read, result_links, Answers, Unfolded, Solves, Brought, BehindZone, BehindSwitch, Wanted, Demanded}
+use Rattle.gn_node_set.specs.Paths.{Path}
+use Rattle.gn_node_set.specs.Meanings.{Has, Source, an_output, Link, Node, Role, Plain, Switch, File, Zone, Choice, Answer, Meanings, tail_of, chosen, selected}
+use Rattle.gn_exec_laws.specs.Graphs.{Task, link_value, condition, choice_of, links_read, result_links, Answers, Unfolded, Solves, Brought, BehindZone, BehindSwitch, Wanted, Demanded}
 use Rattle.gn_exec_laws.specs.Fits.{SourceSort, LinkSort, LinkSorts, NodeFits, CanStart, IsLawful}
 use Rattle.gn_exec_laws.specs.Machine.{Event, Take, Finish, Serve, Refuse, World, is_set, reads, world, condition_set, sure_as, sure, Reached, Used, IsRun, IsServed}
 use Rattle.gn_exec_laws.specs.Claims.{WaitsFor, its_finish, a_worker, its_answer, an_unset_input, a_zone, a_condition}
-use Rattle.gn_exec_laws.proofs.Lists.{member_at, place_of}
+use Rattle.gn_node_set.proofs.Lists.{member_at, place_of}
 use Rattle.gn_exec_laws.proofs.Sorts.{beside_of, links_beside, head_from, selected_from}
 use Rattle.gn_exec_laws.proofs.Shapes.{Shape}
 use Rattle.gn_exec_laws.proofs.Kept.{kept, number_of}
@@ -53,7 +53,7 @@ module _ {K V S T : Type 0} (m : Meanings K V S T) (lawful : IsLawful m) (task :
   sure_from w node Switch true choice links link h = selected_from Switch choice links link h
 
   pub sure_linked : (w : World K V) (node : Node K V) (link : Link V) → Has (sure m w node) link → Has node.links link
-  sure_linked w node link h = sure_from w node (m.role node.kind) (condition_set m w node.links) (choice_of m (reads m w) node) node.links link h
+  sure_linked w node link h = sure_from w node (m.rows.role node.kind) (condition_set m w node.links) (choice_of m (reads m w) node) node.links link h
 
   -- what is reached has a sort, so an output that is reached is one of a node of the graph
   pub reached_sort : (w : World K V) → Shape m lawful task w → (x : Source V) → Reached m task w (sure m w) x → (s : S) × SourceSort m [] w.graph x s
@@ -63,7 +63,7 @@ module _ {K V S T : Type 0} (m : Meanings K V S T) (lawful : IsLawful m) (task :
       let t : (t : S) × LinkSort m [] w.graph link t = beside_of (LinkSort m [] w.graph) node.links f.sorts (links_beside m [] w.graph node.links f.sorts f.links) link (sure_linked w node link has) in
       (t.1.0, t.1.1)
   reached_sort w g x (Reached.a_result p s outs link is r at) =
-      let z : (z : Node K V) × Has w.graph z × (z.path ≡ p) × (m.role z.kind ≡ Zone) × LinkSorts m [] w.graph outs (m.gives z.kind) = g.opened p outs is in
+      let z : (z : Node K V) × Has w.graph z × (z.path ≡ p) × (m.rows.role z.kind ≡ Zone) × LinkSorts m [] w.graph outs (m.gives z.kind) = g.opened p outs is in
       let t : (t : S) × LinkSort m [] w.graph link t = beside_of (LinkSort m [] w.graph) outs (m.gives z.0.kind) (links_beside m [] w.graph outs (m.gives z.0.kind) z.4) link (member_at outs s link at) in
       (t.1.0, t.1.1)
 
@@ -92,40 +92,40 @@ module _ {K V S T : Type 0} (m : Meanings K V S T) (lawful : IsLawful m) (task :
 
     -- behind a zone that isn't opened, or behind a switch whose condition isn't set
     pub data Stopped (w : World K V) (x : Source V) : Type 0 where
-      by_zone : (zone : Node K V) → Demanded m task tells den zone → m.role zone.kind ≡ Zone → w.opened zone.path ≡ None → BehindZone m task tells den zone x → Stopped w x
-      by_switch : (node : Node K V) → Demanded m task tells den node → m.role node.kind ≡ Switch → condition_set m w node.links ≡ false → BehindSwitch m task tells den node x → Stopped w x
+      by_zone : (zone : Node K V) → Demanded m task tells den zone → m.rows.role zone.kind ≡ Zone → w.opened zone.path ≡ None → BehindZone m task tells den zone x → Stopped w x
+      by_switch : (node : Node K V) → Demanded m task tells den node → m.rows.role node.kind ≡ Switch → condition_set m w node.links ≡ false → BehindSwitch m task tells den node x → Stopped w x
 
     abbrev pub Reaches : World K V → Source V → Type 0
     Reaches w x = Reached m task w (sure m w) x ⊎ Stopped w x
 
     -- what a node reads it is sure to read, or is a switch without a condition yet
-    read_or : (w : World K V) → Right m lawful task c tells den w → (node : Node K V) (role : Role) (links : List (Link V)) (link : Link V) → Has (selected role (m.choice node.kind (condition m value links)) links) link
-        → Has (sure_as m role (condition_set m w links) (m.choice node.kind (condition m (reads m w) links)) links) link
-        ⊎ (role ≡ Switch) × (condition_set m w links ≡ false) × Has (tail_of (selected role (m.choice node.kind (condition m value links)) links)) link
+    read_or : (w : World K V) → Right m lawful task c tells den w → (node : Node K V) (role : Role) (links : List (Link V)) (link : Link V) → Has (selected role (m.rows.choice node.kind (condition m value links)) links) link
+        → Has (sure_as m role (condition_set m w links) (m.rows.choice node.kind (condition m (reads m w) links)) links) link
+        ⊎ (role ≡ Switch) × (condition_set m w links ≡ false) × Has (tail_of (selected role (m.rows.choice node.kind (condition m value links)) links)) link
     read_or w r node Plain links link h = inl h
     read_or w r node File links link h = inl h
     read_or w r node Zone links link h = inl h
     read_or w r node Switch [] link h = absurd h
     read_or w r node Switch (first ∷ links) link h = by_set (is_set w first.from) refl h
       where
-        by_set : (b : Bool) → is_set w first.from ≡ b → Has (first ∷ chosen (m.choice node.kind (value first)) links) link
-            → Has (sure_as m Switch (is_set w first.from) (m.choice node.kind (reads m w first)) (first ∷ links)) link
-            ⊎ (Switch ≡ Switch) × (is_set w first.from ≡ false) × Has (chosen (m.choice node.kind (value first)) links) link
+        by_set : (b : Bool) → is_set w first.from ≡ b → Has (first ∷ chosen (m.rows.choice node.kind (value first)) links) link
+            → Has (sure_as m Switch (is_set w first.from) (m.rows.choice node.kind (reads m w first)) (first ∷ links)) link
+            ⊎ (Switch ≡ Switch) × (is_set w first.from ≡ false) × Has (chosen (m.rows.choice node.kind (value first)) links) link
         by_set true e k =
-            inl (subst (λ b. Has (sure_as m Switch b (m.choice node.kind (reads m w first)) (first ∷ links)) link) (sym e)
-            (subst (λ u. Has (first ∷ chosen (m.choice node.kind u) links) link) (sym (reads_right m lawful task c tells den w r first e)) k))
-        by_set false e (inl same) = inl (subst (λ b. Has (sure_as m Switch b (m.choice node.kind (reads m w first)) (first ∷ links)) link) (sym e) (inl same))
+            inl (subst (λ b. Has (sure_as m Switch b (m.rows.choice node.kind (reads m w first)) (first ∷ links)) link) (sym e)
+            (subst (λ u. Has (first ∷ chosen (m.rows.choice node.kind u) links) link) (sym (reads_right m lawful task c tells den w r first e)) k))
+        by_set false e (inl same) = inl (subst (λ b. Has (sure_as m Switch b (m.rows.choice node.kind (reads m w first)) (first ∷ links)) link) (sym e) (inl same))
         by_set false e (inr k) = inr (refl, e, k)
 
     pub wanted_reaches : (w : World K V) → Shape m lawful task w → Right m lawful task c tells den w → (x : Source V) → Wanted m task tells den x → Reaches w x
     wanted_reaches w g r x (Brought.a_start root) = inl (subst (Reached m task w (sure m w)) (sym root.2) (Reached.a_root root.0 root.1))
     wanted_reaches w g r x (Brought.an_input node s link is d has) = elim (wanted_reaches w g r (an_output node.path s) d) [
-      | inl reached ↦ by_reading reached (read_or w r node (m.role node.kind) node.links link has)
+      | inl reached ↦ by_reading reached (read_or w r node (m.rows.role node.kind) node.links link has)
       | inr stopped ↦ inr (behind stopped)
     ]
       where
         by_reading : Reached m task w (sure m w) (an_output node.path s)
-            → Has (sure m w node) link ⊎ (m.role node.kind ≡ Switch) × (condition_set m w node.links ≡ false) × Has (tail_of (links_read m value node)) link
+            → Has (sure m w node) link ⊎ (m.rows.role node.kind ≡ Switch) × (condition_set m w node.links ≡ false) × Has (tail_of (links_read m value node)) link
             → Reaches w link.from
         by_reading reached (inl k) = inl (Reached.an_input node s link (node_there w g r node s is reached) reached k)
         by_reading reached (inr t) = inr (Stopped.by_switch node (is, (s, d)) t.0 t.1 (Brought.a_start (link, t.2, refl)))
@@ -141,7 +141,7 @@ module _ {K V S T : Type 0} (m : Meanings K V S T) (lawful : IsLawful m) (task :
         by_opened : Reached m task w (sure m w) (an_output node.path s) → (o : Option (List (Link V))) → w.opened node.path ≡ o → Reaches w link.from
         by_opened reached None e = inr (Stopped.by_zone node (is, (s, d)) role e (Brought.a_start (link, member_at (result_links m value node) s link at, refl)))
         by_opened reached (Some outs) e =
-            let z : (z : Node K V) × Is z × (z.path ≡ node.path) × (m.role z.kind ≡ Zone) × (outs ≡ result_links m value z) = r.opened node.path outs e in
+            let z : (z : Node K V) × Is z × (z.path ≡ node.path) × (m.rows.role z.kind ≡ Zone) × (outs ≡ result_links m value z) = r.opened node.path outs e in
             let same : outs ≡ result_links m value node = z.4 ∙ ap (result_links m value) (one_there m lawful task c tells den z.0 node z.1 is z.2) in
             inl (Reached.a_result node.path s outs link e reached (subst (λ os. slice_get os s ≡ Some link) (sym same) at))
 
@@ -163,7 +163,7 @@ module _ {K V S T : Type 0} (m : Meanings K V S T) (lawful : IsLawful m) (task :
       untaken : (n : ℕ) (node : Node K V) → slice_get w.graph n ≡ Some node → Used m task w node → ((v : ℕ) → ¬ Has es (Take v n)) → WaitsFor m task tells den es node
       untaken n node at used fresh = by_inputs (all_set w (sure m w node))
         where
-          by_answer : ((link : Link V) → Has (sure m w node) link → is_set w link.from ≡ true) → (o : Option Answer) → w.answers node.path ≡ o → (role : Role) → m.role node.kind ≡ role → WaitsFor m task tells den es node
+          by_answer : ((link : Link V) → Has (sure m w node) link → is_set w link.from ≡ true) → (o : Option Answer) → w.answers node.path ≡ o → (role : Role) → m.rows.role node.kind ≡ role → WaitsFor m task tells den es node
           by_answer all None e File is = its_answer n (record { there = at; used = used; file = is; no_answer = e })
           by_answer all (Some a) e role is = a_worker n (record { there = at; used = used; fresh = fresh; inputs = all; answered = λ _. (a, e) })
           by_answer all None e Plain is = a_worker n (record { there = at; used = used; fresh = fresh; inputs = all; answered = λ file. let bad : Plain ≡ File = sym is ∙ file in cc })
@@ -171,7 +171,7 @@ module _ {K V S T : Type 0} (m : Meanings K V S T) (lawful : IsLawful m) (task :
           by_answer all None e Zone is = a_worker n (record { there = at; used = used; fresh = fresh; inputs = all; answered = λ file. let bad : Zone ≡ File = sym is ∙ file in cc })
 
           by_inputs : ((link : Link V) → Has (sure m w node) link → is_set w link.from ≡ true) ⊎ ((link : Link V) × Has (sure m w node) link × (is_set w link.from ≡ false)) → WaitsFor m task tells den es node
-          by_inputs (inl all) = by_answer all (w.answers node.path) refl (m.role node.kind) refl
+          by_inputs (inl all) = by_answer all (w.answers node.path) refl (m.rows.role node.kind) refl
           by_inputs (inr t) = an_unset_input t.0 (member_at w.graph n node at) used t.1 t.2
 
       waits : (node : Node K V) → Is node → (s : ℕ) → Reaches w (an_output node.path s) → WaitsFor m task tells den es node

@@ -1,8 +1,8 @@
 -- Which graphs fit, and what meanings have to keep.
 use Rattle.std.specs.Prelude.{◌≡◌, ◌≢◌, ◌⊎◌, ℕ, ◌<◌, List, [], ◌∷◌, ◌++◌, map, Option, Some, None, Bool, true, false, IsTrue, is_some, slice_get, option_and_then}
-use Rattle.gn_exec_laws.specs.Paths.{Path, ends_plain, has_turn, zone_of}
-use Rattle.gn_exec_laws.specs.Meanings.{Has, Source, a_value, an_item, an_output, Link, Node, Opened, Role, File, Zone, Answer, Done, Meanings}
-use Rattle.gn_exec_laws.specs.Graphs.{Task, AllDiffer, selected}
+use Rattle.gn_node_set.specs.Paths.{Path, ends_plain, has_turn, zone_of}
+use Rattle.gn_node_set.specs.Meanings.{Has, Source, a_value, an_item, an_output, Link, Node, Opened, Role, File, Zone, Answer, Warning, Done, Meanings, AllDiffer, selected}
+use Rattle.gn_exec_laws.specs.Graphs.{Task}
 
 abbrev pub paths_of : {K V : Type 0} → List (Node K V) → List Path
 paths_of nodes = map (λ node. node.path) nodes
@@ -42,7 +42,7 @@ module _ {K V S T : Type 0} (m : Meanings K V S T) where
 
   pub record KindFits (kind : K) (sorts : List S) : Type 0 where
     pub fits : IsTrue (m.fits kind sorts)
-    pub items : HasItems (m.role kind) kind sorts
+    pub items : HasItems (m.rows.role kind) kind sorts
 
   -- a node fits behind these nodes
   pub record NodeFits (items : List S) (nodes : List (Node K V)) (node : Node K V) : Type 0 where
@@ -77,17 +77,18 @@ module _ {K V S T : Type 0} (m : Meanings K V S T) where
   pub record CanRun (path : Path) (kind : K) (inputs : List V) (answer : Option Answer) : Type 0 where
     pub sorts : List S
     pub fits : KindFits kind sorts
-    pub are : map m.sort inputs ≡ selected (m.role kind) (m.choice kind (first_of inputs)) sorts
+    pub are : map m.sort inputs ≡ selected (m.rows.role kind) (m.rows.choice kind (first_of inputs)) sorts
     pub agree : (u v : V) → Has inputs u → Has inputs v → Agree u v
     pub not_own : (v : V) → Has inputs v → m.tag v path ≡ None
-    pub answered : is_some answer ≡ is_file (m.role kind)
+    pub answered : is_some answer ≡ is_file (m.rows.role kind)
 
-  -- what it gives: outputs of their sorts, whose tags are the node's own or are those of inputs; a zone's run gives one value
+  -- what it gives: outputs of their sorts, whose tags are the node's own or are those of inputs, and warnings under its own path; a zone's run gives one value
   pub record RunsWell (path : Path) (kind : K) (inputs : List V) (done : Done V) : Type 0 where
-    pub sorts : m.role kind ≢ Zone → map m.sort done.outputs ≡ m.gives kind
-    pub count : m.role kind ≡ Zone → (v : V) × (done.outputs ≡ v ∷ [])
+    pub sorts : m.rows.role kind ≢ Zone → map m.sort done.outputs ≡ m.gives kind
+    pub count : m.rows.role kind ≡ Zone → (v : V) × (done.outputs ≡ v ∷ [])
     pub tags : (v : V) → Has done.outputs v → (p : Path) (t : T) → m.tag v p ≡ Some t → (p ≡ path) ⊎ ((u : V) × Has inputs u × (m.tag u p ≡ Some t))
     pub agree : (u v : V) → Has done.outputs u → Has done.outputs v → Agree u v
+    pub warns : (warning : Warning) → Has done.warnings warning → warning.path ≡ path
 
   -- what a zone opens: nodes in its turns that are less high than it, each fitting behind those before it, and a link for each of its outputs
   pub record OpensWell (path : Path) (kind : K) (opened : Opened K V) : Type 0 where
@@ -98,7 +99,13 @@ module _ {K V S T : Type 0} (m : Meanings K V S T) where
     pub outputs : LinkSorts (m.gives kind) opened.nodes opened.outputs (m.gives kind)
 
   pub record IsLawful : Type 0 where
-    pub rows : (path : Path) (kind : K) (inputs : List V) (answer : Option Answer) → CanRun path kind inputs answer → RunsWell path kind inputs (m.row path kind inputs answer)
-    pub opens : (path : Path) (kind : K) (count : V) (sorts : List S) → IsTrue (ends_plain path) → m.role kind ≡ Zone → KindFits kind sorts → OpensWell path kind (m.opens path kind count)
-    pub conversion_sorts : (v : V) (kind : ℕ) (s : S) → m.shift (m.sort v) kind ≡ Some s → m.sort (m.convert v kind) ≡ s
-    pub conversion_tags : (v : V) (kind : ℕ) (s : S) → m.shift (m.sort v) kind ≡ Some s → (p : Path) → m.tag (m.convert v kind) p ≡ m.tag v p
+    pub rows : (path : Path) (kind : K) (inputs : List V) (answer : Option Answer) → CanRun path kind inputs answer → RunsWell path kind inputs (m.rows.row path kind inputs answer)
+    pub opens : (path : Path) (kind : K) (count : V) (sorts : List S) → IsTrue (ends_plain path) → m.rows.role kind ≡ Zone → KindFits kind sorts → OpensWell path kind (m.opens path kind count)
+    pub conversion_sorts : (v : V) (kind : ℕ) (s : S) → m.shift (m.sort v) kind ≡ Some s → m.sort (m.rows.convert v kind) ≡ s
+    pub conversion_tags : (v : V) (kind : ℕ) (s : S) → m.shift (m.sort v) kind ≡ Some s → (p : Path) → m.tag (m.rows.convert v kind) p ≡ m.tag v p
+
+  -- ---- sharing
+
+  -- where values of some sorts can be shared, these sorts are not converted
+  abbrev pub SharedStay : (S → Bool) → Type 0
+  SharedStay shareable = (s : S) (kind : ℕ) → IsTrue (shareable s) → m.shift s kind ≡ None

@@ -1,44 +1,14 @@
 -- What the outputs of a graph's nodes are, with all its zones opened, and which of the nodes are demanded.
 use Rattle.std.specs.Prelude.{◌≡◌, ◌≢◌, ◌↔◌, ℕ, List, [], ◌∷◌, map, Option, Some, None, slice_get, slice_index_or}
-use Rattle.gn_exec_laws.specs.Paths.{Path}
-use Rattle.gn_exec_laws.specs.Meanings.{Has, Source, a_value, an_item, an_output, Link, plain_link, along, Node, Opened, Role, Switch, File, Zone, Choice, First, Second, Both, Answer, Done, Meanings}
+use Rattle.gn_node_set.specs.Paths.{Path}
+use Rattle.gn_node_set.specs.Meanings.{Has, Source, a_value, an_item, an_output, Link, plain_link, along, Node, Opened, Zone, Choice, Answer, Done, Meanings, AllDiffer, tail_of, selected, converted, answer_for}
 
 -- what an executor works on: nodes, with the given values in their links, and the links to what is asked of them
 pub record Task (K V : Type 0) : Type 0 where
   pub nodes : List (Node K V)
   pub roots : List (Link V)
 
-abbrev pub AllDiffer : {A : Type 0} → List A → Type 0
-AllDiffer [] = Unit {0}
-AllDiffer (x ∷ xs) = (¬ Has xs x) × AllDiffer xs
-
-abbrev pub head_of : {A : Type 0} → List A → List A
-head_of [] = []
-head_of (x ∷ xs) = x ∷ []
-
-abbrev pub tail_of : {A : Type 0} → List A → List A
-tail_of [] = []
-tail_of (x ∷ xs) = xs
-
--- of the values behind a switch's condition those that it reads
-abbrev pub chosen : {A : Type 0} → Choice → List A → List A
-chosen First xs = head_of xs
-chosen Second xs = head_of (tail_of xs)
-chosen Both xs = xs
-
--- of a node's inputs those that its run gets: of a switch the condition and what it chooses, of a zone the head
-abbrev pub selected : {A : Type 0} → Role → Choice → List A → List A
-selected Switch choice [] = []
-selected Switch choice (x ∷ xs) = x ∷ chosen choice xs
-selected Zone choice xs = head_of xs
-selected _ choice xs = xs
-
 module _ {K V S T : Type 0} (m : Meanings K V S T) where
-  -- a value after conversions to these kinds in turn
-  abbrev pub converted : V → List ℕ → V
-  converted v [] = v
-  converted v (kind ∷ kinds) = converted (m.convert v kind) kinds
-
   -- the values of links
   abbrev pub Reading : Type 0
   Reading = Link V → V
@@ -50,7 +20,7 @@ module _ {K V S T : Type 0} (m : Meanings K V S T) where
 
   -- the value of a link, from the outputs of the node at each path
   abbrev pub link_value : (Path → List V) → Reading
-  link_value outputs link = converted (source_value outputs link.from) link.through
+  link_value outputs link = converted m.rows (source_value outputs link.from) link.through
 
   -- the value of the first link, which is a switch's condition
   abbrev pub condition : Reading → List (Link V) → V
@@ -58,15 +28,15 @@ module _ {K V S T : Type 0} (m : Meanings K V S T) where
   condition read (link ∷ links) = read link
 
   abbrev pub choice_of : Reading → Node K V → Choice
-  choice_of read node = m.choice node.kind (condition read node.links)
+  choice_of read node = m.rows.choice node.kind (condition read node.links)
 
   -- the links that a node's run reads
   abbrev pub links_read : Reading → Node K V → List (Link V)
-  links_read read node = selected (m.role node.kind) (choice_of read node) node.links
+  links_read read node = selected (m.rows.role node.kind) (choice_of read node) node.links
 
   -- what a run of the node gives, by the row of its kind
   abbrev pub run_of : Reading → Option Answer → Node K V → Done V
-  run_of read answer node = m.row node.path node.kind (map read (links_read read node)) answer
+  run_of read answer node = m.rows.row node.path node.kind (map read (links_read read node)) answer
 
   -- what a zone opens, by the one output of its run
   abbrev pub opened_by : Reading → Node K V → Opened K V
@@ -99,32 +69,28 @@ module _ {K V S T : Type 0} (m : Meanings K V S T) where
 
   -- by files, each import is told what its file gives
   abbrev pub told_by : (List ℕ → Answer) → Answers
-  told_by files node = files (m.file node.kind)
-
-  abbrev pub answer_as : Role → Answers → Node K V → Option Answer
-  answer_as File tells node = Some (tells node)
-  answer_as _ tells node = None
+  told_by files node = files (m.rows.file node.kind)
 
   abbrev pub answer_of : Answers → Node K V → Option Answer
-  answer_of tells node = answer_as (m.role node.kind) tells node
+  answer_of tells node = answer_for (m.rows.role node.kind) (tells node)
 
   module _ (task : Task K V) (tells : Answers) (den : Path → List V) where
     -- a node is one of the task, or of a turn of a zone that is such a node itself
     pub data Unfolded : Node K V → Type 0 where
       of_the_graph : {node : Node K V} → Has task.nodes node → Unfolded node
-      of_a_turn : {node : Node K V} (zone : Node K V) → Unfolded zone → m.role zone.kind ≡ Zone → Has (turn_nodes (link_value den) zone) node → Unfolded node
+      of_a_turn : {node : Node K V} (zone : Node K V) → Unfolded zone → m.rows.role zone.kind ≡ Zone → Has (turn_nodes (link_value den) zone) node → Unfolded node
 
     -- the equations: a node gives what its run gives, and a zone what its result links carry
     pub record Solves : Type 0 where
-      pub rows : (node : Node K V) → Unfolded node → m.role node.kind ≢ Zone → den node.path ≡ (run_of (link_value den) (answer_of tells node) node).outputs
-      pub zones : (node : Node K V) → Unfolded node → m.role node.kind ≡ Zone → den node.path ≡ map (link_value den) (result_links (link_value den) node)
+      pub rows : (node : Node K V) → Unfolded node → m.rows.role node.kind ≢ Zone → den node.path ≡ (run_of (link_value den) (answer_of tells node) node).outputs
+      pub zones : (node : Node K V) → Unfolded node → m.rows.role node.kind ≡ Zone → den node.path ≡ map (link_value den) (result_links (link_value den) node)
 
     -- the least set of sources that holds the starts, with an output of a node the sources that its run reads, and with one of a zone where it comes from
     module _ (Starts : Source V → Type 0) where
       pub data Brought : Source V → Type 0 where
         a_start : {x : Source V} → Starts x → Brought x
         an_input : (node : Node K V) (s : ℕ) (link : Link V) → Unfolded node → Brought (an_output node.path s) → Has (links_read (link_value den) node) link → Brought link.from
-        a_result : (node : Node K V) (s : ℕ) (link : Link V) → Unfolded node → m.role node.kind ≡ Zone → Brought (an_output node.path s) → slice_get (result_links (link_value den) node) s ≡ Some link → Brought link.from
+        a_result : (node : Node K V) (s : ℕ) (link : Link V) → Unfolded node → m.rows.role node.kind ≡ Zone → Brought (an_output node.path s) → slice_get (result_links (link_value den) node) s ≡ Some link → Brought link.from
 
     abbrev pub IsRoot : Source V → Type 0
     IsRoot x = (link : Link V) × Has task.roots link × (x ≡ link.from)

@@ -1,5 +1,3 @@
-pub mod Paths
-pub mod Meanings
 pub mod Graphs
 pub mod Fits
 pub mod Machine

@@ -1,8 +1,8 @@
 -- The events of the executor, and the world that a list of them leaves. Lists begin with the last event.
-use Rattle.std.specs.Prelude.{◌≡◌, ℕ, ◌<◌, List, [], ◌∷◌, ◌++◌, Option, Some, None, Bool, true, false, is_some, unwrap_or, IsTrue, if◌then◌else◌, slice_get, slice_index_or}
-use Rattle.gn_exec_laws.specs.Paths.{Path, same_path, with_entry}
-use Rattle.gn_exec_laws.specs.Meanings.{Has, Source, a_value, an_item, an_output, Link, plain_link, along, Node, Role, Switch, File, Zone, Choice, Answer, Warning, Done, Meanings}
-use Rattle.gn_exec_laws.specs.Graphs.{Task, head_of, selected, Reading, link_value, choice_of, run_of, turn_nodes, result_links, Answers}
+use Rattle.std.specs.Prelude.{◌≡◌, ℕ, ◌<◌, List, [], ◌∷◌, ◌++◌, map, Option, Some, None, Bool, true, false, is_some, unwrap_or, IsTrue, if◌then◌else◌, slice_get, slice_index_or}
+use Rattle.gn_node_set.specs.Paths.{Path, same_path, with_entry}
+use Rattle.gn_node_set.specs.Meanings.{Has, Source, a_value, an_item, an_output, Link, plain_link, along, Node, Role, Switch, File, Zone, Choice, Answer, Warning, Done, Meanings, head_of, selected}
+use Rattle.gn_exec_laws.specs.Graphs.{Task, Reading, link_value, choice_of, links_read, run_of, turn_nodes, result_links, Answers}
 
 pub data Event : Type 0 where
   Take : (worker node : ℕ) → Event
@@ -40,6 +40,15 @@ is_there w (an_output p s) = is_some (w.set p)
 abbrev pub is_set : {K V : Type 0} → World K V → Source V → Bool
 is_set w x = is_there w (w.leads x).from
 
+-- the node that has a number
+abbrev pub HasNumber : {K V : Type 0} → World K V → ℕ → Node K V → Type 0
+HasNumber w n node = slice_get w.graph n ≡ Some node
+
+-- the source is no output of a zone that is opened
+abbrev pub IsShut : {K V : Type 0} → World K V → Source V → Type 0
+IsShut w (an_output p s) = w.opened p ≡ None
+IsShut w _ = Unit {0}
+
 module _ {K V S T : Type 0} (m : Meanings K V S T) where
   -- the outputs that are set, and nothing elsewhere
   abbrev pub set_outputs : World K V → Path → List V
@@ -47,6 +56,13 @@ module _ {K V S T : Type 0} (m : Meanings K V S T) where
 
   abbrev pub reads : World K V → Reading m
   reads w link = link_value m (set_outputs w) (link_now w link)
+
+  -- what a run of the node gets by now, and what it gives
+  abbrev pub inputs_now : World K V → Node K V → List V
+  inputs_now w node = map (reads w) (links_read m (reads w) node)
+
+  abbrev pub run_now : World K V → Node K V → Done V
+  run_now w node = run_of m (reads w) (w.answers node.path) node
 
   -- ---- the effect of an event
 
@@ -72,11 +88,11 @@ module _ {K V S T : Type 0} (m : Meanings K V S T) where
 
   abbrev pub finish_by_role : Role → World K V → Node K V → World K V
   finish_by_role Zone w node = with_turns w node (turn_nodes m (reads w) node) (result_links m (reads w) node) (run_of m (reads w) None node).warnings
-  finish_by_role _ w node = with_outputs w node (run_of m (reads w) (w.answers node.path) node)
+  finish_by_role _ w node = with_outputs w node (run_now w node)
 
   abbrev pub finish_node : World K V → Option (Node K V) → World K V
   finish_node w None = w
-  finish_node w (Some node) = finish_by_role (m.role node.kind) w node
+  finish_node w (Some node) = finish_by_role (m.rows.role node.kind) w node
 
   abbrev pub serve_node : World K V → Answer → Option (Node K V) → World K V
   serve_node w a None = w
@@ -107,7 +123,7 @@ module _ {K V S T : Type 0} (m : Meanings K V S T) where
 
   -- of a used node's links those that are used: of a switch whose condition isn't set the condition, of a zone the head
   abbrev pub sure : World K V → Node K V → List (Link V)
-  sure w node = sure_as (m.role node.kind) (condition_set w node.links) (choice_of m (reads w) node) node.links
+  sure w node = sure_as (m.rows.role node.kind) (condition_set w node.links) (choice_of m (reads w) node) node.links
 
   abbrev pub possible_as : Role → Bool → Bool → Choice → List (Link V) → List (Link V)
   possible_as Switch false _ choice links = links
@@ -116,7 +132,7 @@ module _ {K V S T : Type 0} (m : Meanings K V S T) where
 
   -- of the links of a node that may be used those that may be used: of a switch whose condition isn't set, and of a zone that isn't opened, all
   abbrev pub possible : World K V → Node K V → List (Link V)
-  possible w node = possible_as (m.role node.kind) (condition_set w node.links) (is_some (w.opened node.path)) (choice_of m (reads w) node) node.links
+  possible w node = possible_as (m.rows.role node.kind) (condition_set w node.links) (is_some (w.opened node.path)) (choice_of m (reads w) node) node.links
 
   module _ (task : Task K V) (w : World K V) (calls : Node K V → List (Link V)) where
     -- the least set of sources that holds the roots, with an output of a node what the node calls for, and with one of an opened zone where it comes from
@@ -141,13 +157,13 @@ module _ {K V S T : Type 0} (m : Meanings K V S T) where
       pub used : Used task (world task es) node
       pub fresh : (v : ℕ) → ¬ Has es (Take v n)
       pub inputs : (link : Link V) → Has (sure (world task es) node) link → IsTrue (is_set (world task es) link.from)
-      pub answered : m.role node.kind ≡ File → (a : Answer) × ((world task es).answers node.path ≡ Some a)
+      pub answered : m.rows.role node.kind ≡ File → (a : Answer) × ((world task es).answers node.path ≡ Some a)
 
     -- a used import that has no answer yet
     pub record Awaits (es : List Event) (n : ℕ) (node : Node K V) : Type 0 where
       pub there : slice_get (world task es).graph n ≡ Some node
       pub used : Used task (world task es) node
-      pub file : m.role node.kind ≡ File
+      pub file : m.rows.role node.kind ≡ File
       pub no_answer : (world task es).answers node.path ≡ None
 
     abbrev pub NoRefusals : List Event → Type 0

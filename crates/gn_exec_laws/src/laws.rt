@@ -1,6 +1,6 @@
-ghost use Rattle.gn_exec_laws.specs.Meanings.{Meanings};
+ghost use Rattle.gn_node_set.specs.Meanings.{Meanings};
 ghost use Rattle.gn_exec_laws.specs.Fits.{IsLawful};
-ghost use Rattle.gn_exec_laws.specs.Claims.{NodesAreTakenOnce, WorldsOnlyGrow, WorldsFit, ReadyNodesCanRun, TagsOfSetOutputsAgree, SetOutputsAreRight, UsedNodesAreDemanded, UnfinishedNodesWait, RunsEndWell, RunsCanEnd, UsesOnlyNarrow, GraphsHaveOneSolution, DemandsCanBeListed, PathsNameOneNode};
+ghost use Rattle.gn_exec_laws.specs.Claims.{NodesAreTakenOnce, WorldsOnlyGrow, WorldsFit, ReadyNodesCanRun, TagsOfSetOutputsAgree, SetOutputsAreRight, UsedNodesAreDemanded, UnfinishedNodesWait, RunsEndWell, RunsCanEnd, UsesOnlyNarrow, GraphsHaveOneSolution, DemandsCanBeListed, PathsNameOneNode, ImportsAreServedOnce, EventsAreBounded, WorldsComeOfEvents, ZoneOutputsLeadOn, TakesAreCounted, DemandedImportsAreServed};
 
 /// What the kinds of a set of nodes do, for contracts alone: the types of kinds, values, sorts of
 /// values and sources of sampled fields, the meanings over these, and a proof that the meanings keep
@@ -98,4 +98,40 @@ pub fn demands_can_be_listed<N: NodeMeanings>()
 /// No path names two nodes of a graph with its zones opened.
 pub fn paths_name_one_node<N: NodeMeanings>()
     ensures { PathsNameOneNode N.meanings }
+{}
+
+/// Over every list of events: no import is served twice, and what is served is a used import.
+pub fn imports_are_served_once<N: NodeMeanings>()
+    ensures { ImportsAreServedOnce N.meanings }
+{}
+
+/// Over every list of events: there are at most three events for each node of the graph by then, and
+/// 64 refusals.
+pub fn events_are_bounded<N: NodeMeanings>()
+    ensures { EventsAreBounded N.meanings }
+{}
+
+/// Over every list of events: what is set, opened or warned came with the finish of a node, which left
+/// what the node's run gives by what is read now; what is answered came with a serve; and a node warns
+/// under its own path.
+pub fn worlds_come_of_events<N: NodeMeanings>()
+    ensures { WorldsComeOfEvents N.meanings }
+{}
+
+/// Over every list of events: an output of an opened zone leads where its result link leads by now,
+/// and any other source leads to itself.
+pub fn zone_outputs_lead_on<N: NodeMeanings>()
+    ensures { ZoneOutputsLeadOn N.meanings }
+{}
+
+/// Over every run on files: no more nodes are taken than are demanded, and where the run is over as
+/// many.
+pub fn takes_are_counted<N: NodeMeanings>()
+    ensures { TakesAreCounted N.meanings }
+{}
+
+/// Over every run on files: each node that was served is a demanded import, and where the run is over
+/// each demanded import was served.
+pub fn demanded_imports_are_served<N: NodeMeanings>()
+    ensures { DemandedImportsAreServed N.meanings }
 {}

@@ -3,7 +3,7 @@ use Rattle.std.proofs.Common.{◌≡◌, ◌≢◌, ◌⊎◌, inl, inr, ℕ, []
 use Rattle.std.specs.Prelude.{◌==◌, ◌&&◌, ◌||◌, is_some, is_none, option_map, if◌then◌else◌}
 use Rattle.std.proofs.lemmas.Bool.Decides.{eqb_tells}
 use Rattle.gn_lazy.specs.declared.path.PathStep.{PathStep}
-use Rattle.gn_exec_laws.specs.Paths.{Path, same_turn, same_path, ends_plain, has_turn, left_out, zone_of, with_entry}
+use Rattle.gn_node_set.specs.Paths.{Path, same_turn, same_path, ends_plain, has_turn, left_out, zone_of, with_entry}
 
 -- a test tells whether it holds
 abbrev Tells : Bool → Type 0 → Type 0

@@ -1,8 +1,7 @@
 -- Members, places and maps of lists.
-use Rattle.std.proofs.Common.{◌≡◌, ◌⊎◌, inl, inr, ℕ, zero, suc, List, [], ◌∷◌, ◌++◌, map, Option, Some, None, true, refl, sym, ◌∙◌, ap, subst}
+use Rattle.std.proofs.Common.{◌≡◌, ◌⊎◌, inl, inr, ℕ, zero, suc, List, [], ◌∷◌, ◌++◌, map, Option, Some, None, true, false, refl, sym, ◌∙◌, ap, subst}
 use Rattle.std.specs.Prelude.{is_some, slice_get, slice_index_or}
-use Rattle.gn_exec_laws.specs.Meanings.{Has}
-use Rattle.gn_exec_laws.specs.Graphs.{AllDiffer}
+use Rattle.gn_node_set.specs.Meanings.{Has, AllDiffer}
 
 pub some_same : {A : Type 0} {a b : A} → Some a ≡ Some b → a ≡ b
 some_same e = cc
@@ -13,6 +12,10 @@ held (Some a) e = (a, refl)
 
 pub is_held : {A : Type 0} (o : Option A) (a : A) → o ≡ Some a → is_some o ≡ true
 is_held o a e = ap is_some e
+
+pub not_held : {A : Type 0} (o : Option A) → is_some o ≡ false → o ≡ None
+not_held None e = refl
+not_held (Some a) e = cc
 
 pub not_both : {A : Type 0} {o : Option A} {a : A} → o ≡ None → o ≡ Some a → ⊥
 not_both e f = let bad : None ≡ Some _ = sym e ∙ f in cc
