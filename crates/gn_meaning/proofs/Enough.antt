@@ -7,7 +7,7 @@ use Rattle.std.proofs.lemmas.List.{length-append, length-map}
 use Rattle.gn_kinds.specs.Row as row
 use Rattle.gn_kinds.specs.Row.{Text}
 use Rattle.gn_names.specs.First.{first_of}
-use Rattle.gn_places.specs.Place.{key}
+use Rattle.gn_pointers.specs.Pointers.{key}
 use Rattle.gn_tree.specs.NodeKinds.{Kind}
 use Rattle.gn_tree.specs.Trees.{Named, Node, node, Settings, no_settings, and_setting, and_zone, Group, Tree, of_group}
 use Rattle.gn_rules.specs.declared.rule.Rule.TheVariants as rule

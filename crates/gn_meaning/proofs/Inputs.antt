@@ -10,7 +10,7 @@ use Rattle.gn_kinds.specs.declared.row.DefaultValue.{DefaultValue}
 use Rattle.gn_kinds.specs.declared.row.DefaultValue.TheVariants.{Zero}
 use Rattle.gn_kinds.specs.Row.{Text}
 use Rattle.gn_names.specs.First.{first_of}
-use Rattle.gn_places.specs.Place.{index, key}
+use Rattle.gn_pointers.specs.Pointers.{index, key}
 use Rattle.gn_tree.specs.Trees.{Link, Input, constant, link, links, Named, Tree}
 use Rattle.gn_rules.specs.declared.rule.Rule.TheVariants as rule
 use Rattle.gn_rules.specs.declared.shape.Shape.{Shape}

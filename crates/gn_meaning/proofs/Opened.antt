@@ -6,7 +6,7 @@ use Rattle.std.proofs.lemmas.Slice.Eq.{bytes_eq-Decides}
 use Rattle.gn_lazy.specs.declared.path.PathStep.{PathStep}
 use Rattle.gn_kinds.specs.declared.row.SocketKind.TheVariants.{Int}
 use Rattle.gn_kinds.specs.Row.{Text}
-use Rattle.gn_places.specs.Place.{key}
+use Rattle.gn_pointers.specs.Pointers.{key}
 use Rattle.gn_tree.specs.NodeKinds.{Kind}
 use Rattle.gn_tree.specs.Trees.{Named, Node, node, Settings, Nodes, no_nodes, and_node, Tree, node_size, settings_size, nodes_size}
 use Rattle.gn_cycle.specs.Graph.{has_edge}

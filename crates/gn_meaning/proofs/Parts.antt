@@ -7,7 +7,7 @@ use Rattle.gn_kinds.specs.declared.row.SocketKind.TheVariants.{Int, Geometry}
 use Rattle.gn_kinds.specs.Row.{Text}
 use Rattle.gn_kinds.specs.Table.{row_of_kind, table, values, functions, elsewhere, attributes, geometry_kinds, instance_kinds, groups}
 use Rattle.gn_names.specs.First.{first_of}
-use Rattle.gn_places.specs.Place.{Step, index, key, part_at as member_at}
+use Rattle.gn_pointers.specs.Pointers.{Step, index, key, part_at as member_at}
 use Rattle.gn_tree.specs.Trees.{Input, Named, Socket, Node, node, Settings, no_settings, and_setting, and_zone, Nodes, no_nodes, and_node, Group, Tree, of_group, settings_size, nodes_size}
 use Rattle.gn_rules.specs.declared.rule.Rule.TheVariants as rule
 use Rattle.gn_rules.specs.Sockets.{declared, single, one, one_of, chosen, group_in, items_in, further, inputs_of, outputs_of, inputs_of_kind, outputs_of_kind, input_of_row, output_of_row, group_names, node_at}

@@ -9,8 +9,8 @@ use Rattle.std.proofs.lemmas.Bool.Decides.{nat_tests}
 use Rattle.std.proofs.lemmas.Cmp.{ranked, tied_itself}
 use Rattle.std.proofs.lemmas.Slice.Eq.{bytes_eq-Decides}
 use Rattle.gn_kinds.specs.Row.{Text}
-use Rattle.gn_places.specs.Place.{Step, index, key, Place, part_at, Holds, IsBadAt}
-use Rattle.gn_places.proofs.Order.{step_total}
+use Rattle.gn_pointers.specs.Pointers.{Step, index, key, Pointer, part_at, Holds, IsBadAt}
+use Rattle.gn_pointers.proofs.Order.{step_total}
 use Rattle.gn_tree.specs.Trees.{Link, Named, Node, Nodes, no_nodes, and_node, Group, Tree}
 use Rattle.gn_rules.specs.declared.rule.Rule.{Rule}
 use Rattle.gn_rules.specs.Sockets.{Declared, declared, node_at}
@@ -24,9 +24,9 @@ module _ (t : Tree) where
     at_top : Reached (the_tree t)
     part : {x : Thing} (step : Step) (y : Thing) → Reached x → part_at step (parts x) ≡ Some y → Reached y
 
-  kept_below : (r : Rule) → KeepsRules t → {x : Thing} → Reached x → (place : Place) → ¬ IsBadAt parts (Breaks r) x place
-  kept_below r keeps at_top place h = keeps r place h
-  kept_below r keeps (part {x} step y there e) place h = kept_below r keeps there (step ∷ place) (subst (λ o. Holds (λ z. IsBadAt parts (Breaks r) z place) o) (sym e) h)
+  kept_below : (r : Rule) → KeepsRules t → {x : Thing} → Reached x → (pointer : Pointer) → ¬ IsBadAt parts (Breaks r) x pointer
+  kept_below r keeps at_top pointer h = keeps r pointer h
+  kept_below r keeps (part {x} step y there e) pointer h = kept_below r keeps there (step ∷ pointer) (subst (λ o. Holds (λ z. IsBadAt parts (Breaks r) z pointer) o) (sym e) h)
 
   pub keeps_rule : (r : Rule) → KeepsRules t → {x : Thing} → Reached x → ¬ Breaks r x
   keeps_rule r keeps there h = kept_below r keeps there [] h
