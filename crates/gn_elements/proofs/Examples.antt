@@ -3,7 +3,7 @@ use Rattle.std.proofs.Common.{◌≡◌, ℕ, ◌*◌, ◌^◌, [], ◌∷◌, �
 use Rattle.gn_value.specs.declared.vector.V3.{V3}
 use Rattle.gn_value.specs.Values.{v3}
 use Rattle.gn_plain.specs.Edges.{Edge}
-use Rattle.gn_plain.specs.Geometry.{Corner, Mesh}
+use Rattle.gn_plain.specs.Geometry.{Corner, Shape}
 use Rattle.gn_decimal.specs.Decimal.{nearest, small_number, signed_exponent, exponent_of, parts_of, units, raw_of, magnitude_of, num}
 use Rattle.gn_lines.specs.Lines.{Text, lines}
 use Rattle.gn_elements.specs.Read.{Bad, mesh}
@@ -18,14 +18,14 @@ corner vertex edge = record { vertex = vertex; edge = edge }
 abbrev edge : ℕ → ℕ → Edge
 edge a b = record { lesser = a; greater = b }
 
-abbrev triangle_at : ℕ → Mesh
+abbrev triangle_at : ℕ → Shape
 triangle_at z = record {
   points = at 0 0 z ∷ at 1 0 z ∷ at 0 1 z ∷ [];
   edges = edge 0 1 ∷ edge 1 2 ∷ edge 0 2 ∷ [];
   faces = (corner 0 0 ∷ corner 1 1 ∷ corner 2 2 ∷ []) ∷ [];
 }
 
-abbrev bad : ℕ → ℕ → Result Mesh Bad
+abbrev bad : ℕ → ℕ → Result Shape Bad
 bad n rule = Err (record { line = n; rule = rule })
 
 -- three vertices, and a last line

@@ -4,7 +4,7 @@ use Rattle.std.specs.List.{list_any, position_or_len, zip}
 use Rattle.gn_value.specs.declared.vector.V3.{V3}
 use Rattle.gn_value.specs.Values.{v3}
 use Rattle.gn_plain.specs.Edges.{Edge, is_edge, edges_along, edges_around, first_seen}
-use Rattle.gn_plain.specs.Geometry.{Corner, Mesh}
+use Rattle.gn_plain.specs.Geometry.{Corner, Shape}
 use Rattle.gn_decimal.specs.Decimal.{num}
 use Rattle.gn_lines.specs.Lines.{Text, Line, lines}
 use Rattle.gn_elements.specs.References.{vertices_named, no_position, too_many_elements}
@@ -74,16 +74,16 @@ abbrev pub corners : List Edge → List ℕ → List Corner
 corners edges vs =
     map (λ c. record { vertex = c.0; edge = c.1 }) (zip vs (map (λ e. position_or_len (is_edge e) edges) (edges_around vs)))
 
--- the mesh of all elements
-abbrev pub mesh_of : List Element → Mesh
-mesh_of elements =
+-- the shape that all elements make
+abbrev pub shape_of : List Element → Shape
+shape_of elements =
     let edges = first_seen (flat_map edges_of elements) in
     record { points = flat_map points_of elements; edges = edges; faces = map (corners edges) (flat_map faces_of elements) }
 
 abbrev pub most : ℕ
 most = 2 ^ 23
 
-abbrev pub is_within : Mesh → Bool
+abbrev pub is_within : Shape → Bool
 is_within m =
     nat_le (length m.points) most && (nat_le (length m.edges) most
     && (nat_le (length m.faces) most && nat_le (sum (map length m.faces)) most))
@@ -96,7 +96,7 @@ pub record Bad : Type 0 where
 -- the element of a line below others, or the least rule that the line breaks
 abbrev pub within : List Element → Result Element ℕ → Result Element ℕ
 within above (Err rule) = Err rule
-within above (Ok e) = if is_within (mesh_of (above ++ e ∷ [])) then Ok e else Err too_many_elements
+within above (Ok e) = if is_within (shape_of (above ++ e ∷ [])) then Ok e else Err too_many_elements
 
 abbrev pub next_element : List Element → List Text → Result Element ℕ
 next_element above words = within above (element_of (length (flat_map points_of above)) words)
@@ -110,9 +110,9 @@ abbrev pub elements_from : List Element → List Line → Result (List Element) 
 elements_from above [] = Ok above
 elements_from above (l ∷ ls) = go_on l.number (next_element above l.words) (λ e. elements_from (above ++ e ∷ []) ls)
 
-abbrev pub mesh_or_bad : Result (List Element) Bad → Result Mesh Bad
-mesh_or_bad (Ok elements) = Ok (mesh_of elements)
+abbrev pub mesh_or_bad : Result (List Element) Bad → Result Shape Bad
+mesh_or_bad (Ok elements) = Ok (shape_of elements)
 mesh_or_bad (Err bad) = Err bad
 
-unfoldable pub mesh : Text → Result Mesh Bad
+unfoldable pub mesh : Text → Result Shape Bad
 mesh text = mesh_or_bad (elements_from [] (lines text))

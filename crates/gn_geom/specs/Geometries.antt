@@ -8,7 +8,7 @@ pub record GeometryArrays : Type 0 where
 
 -- the plain geometry, without the handles
 abbrev pub plain_geometry : GeometryArrays → plain.Geometry
-plain_geometry g = record { mesh = mesh.plain_of g.mesh }
+plain_geometry g = plain.of_shape (mesh.plain_of g.mesh)
 
 -- each handle has all parts
 abbrev pub IsSole : GeometryArrays → Type 0

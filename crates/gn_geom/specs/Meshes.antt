@@ -1,10 +1,10 @@
--- What clauses see of a mesh, and the plain mesh that it stands for.
+-- What clauses see of a mesh, and the plain shape that it stands for.
 use Rattle.std.specs.Prelude.{◌≡◌, ℕ, ◌<◌, ◌==◌, ◌^◌, Bool, not, List, length, slice_index_or}
 use Rattle.std.specs.List.{list_any}
 use Rattle.gn_value.specs.declared.vector.V3.{V3}
 use Rattle.gn_shared.specs.Arrays.{ArrayView}
 use Rattle.gn_plain.specs.Geometry as plain
-use Rattle.gn_plain.specs.Topology.{Topology, IsValid, IsNumbered, mesh_of}
+use Rattle.gn_plain.specs.Topology.{Topology, IsValid, IsNumbered, shape_of}
 
 -- the arrays of a mesh, each with its handle: where the vertices are, the edges, where the corners of each face begin, the vertex and the edge of each corner, and for each edge whether no corner has it
 pub record MeshArrays : Type 0 where
@@ -23,9 +23,9 @@ topology points edges faces corner_points corner_edges =
 abbrev pub topology_of : MeshArrays → Topology
 topology_of m = topology m.points.items m.edges.items m.faces.items m.corner_points.items m.corner_edges.items
 
--- the plain mesh, without the handles
-abbrev pub plain_of : MeshArrays → plain.Mesh
-plain_of m = mesh_of m.points.items (topology_of m)
+-- the plain shape, without the handles
+abbrev pub plain_of : MeshArrays → plain.Shape
+plain_of m = shape_of m.points.items (topology_of m)
 
 -- no corner has the edge of this number
 abbrev pub is_unused : List ℕ → ℕ → Bool

@@ -4,7 +4,7 @@ use Rattle.std.specs.List.{enumerate_from, flat_map, zip}
 use Rattle.std.specs.Prelude.{slice_range}
 use Rattle.std.proofs.lemmas.List.{get_or-map, length-map, take_all}
 use Rattle.gn_plain.specs.Edges.{Edge}
-use Rattle.gn_plain.specs.Geometry.{Corner}
+use Rattle.gn_plain.specs.Geometry.{Corner, of_shape}
 use Rattle.gn_plain.specs.Topology.{corner_of, edge_of, parts_between, vertices_of}
 use Rattle.gn_geom.specs.Meshes.{MeshArrays, plain_of}
 use Rattle.gn_geom.proofs.FaceLemmas.{face_vertices}
@@ -45,6 +45,6 @@ pub edge_within : (items edges : List (ℕ × ℕ)) (k : ℕ) → edges ≡ item
 edge_within items edges k e within = omega (arith, ap length e, length-map items edge_of)
 
 -- the three parts of the text
-pub obj_parts : (m : MeshArrays) → flat_map vertex_line m.points.items ++ flat_map (loose_edge_line (plain_of m)) (enumerate_from 0 (plain_of m).edges) ++ flat_map face_line (plain_of m).faces ≡ obj_text (record { mesh = plain_of m })
+pub obj_parts : (m : MeshArrays) → flat_map vertex_line m.points.items ++ flat_map (loose_edge_line (plain_of m)) (enumerate_from 0 (plain_of m).edges) ++ flat_map face_line (plain_of m).faces ≡ obj_text (of_shape (plain_of m))
 unfolding obj_text
 obj_parts m = refl

@@ -4,7 +4,7 @@ use Rattle.std.specs.Fmt.{decimal}
 use Rattle.std.specs.List.{enumerate_from}
 use Rattle.gn_value.specs.declared.vector.V3.{V3}
 use Rattle.gn_plain.specs.Edges.{Edge}
-use Rattle.gn_plain.specs.Geometry.{Corner, Mesh, Geometry, is_loose}
+use Rattle.gn_plain.specs.Geometry.{Corner, Shape, Geometry, is_loose}
 use Rattle.gn_decimal.specs.Decimal.{dec}
 
 abbrev pub spaced : List ℕ → List ℕ
@@ -26,7 +26,7 @@ abbrev pub edge_line : Edge → List ℕ
 edge_line e = codes "l" ++ vertex_word e.lesser ++ vertex_word e.greater ++ line_feed
 
 -- the line of an edge with its number, where no face has it
-abbrev pub loose_edge_line : Mesh → ℕ × Edge → List ℕ
+abbrev pub loose_edge_line : Shape → ℕ × Edge → List ℕ
 loose_edge_line m e = if is_loose m e.0 then edge_line e.1 else []
 
 -- `f A B C` and further, with as many vertices as the face has corners
@@ -36,6 +36,6 @@ face_line corners = codes "f" ++ flat_map (λ c. vertex_word c.vertex) corners +
 -- the vertices, then the edges that no face has, then the faces
 unfoldable pub obj_text : Geometry → List ℕ
 obj_text g =
-    flat_map vertex_line g.mesh.points
-    ++ flat_map (loose_edge_line g.mesh) (enumerate_from 0 g.mesh.edges)
-    ++ flat_map face_line g.mesh.faces
+    flat_map vertex_line g.mesh.shape.points
+    ++ flat_map (loose_edge_line g.mesh.shape) (enumerate_from 0 g.mesh.shape.edges)
+    ++ flat_map face_line g.mesh.shape.faces

@@ -1,5 +1,5 @@
 ghost use Rattle.std.specs.Prelude.{◌≡◌, IfOk, IfErr, Ok};
-ghost use Rattle.gn_plain.specs.Topology.{IsValid, IsNumbered, mesh_of};
+ghost use Rattle.gn_plain.specs.Topology.{IsValid, IsNumbered, shape_of};
 ghost use Rattle.gn_geom.specs.Meshes.{topology, plain_of, IsSole};
 ghost use Rattle.gn_elements.specs.Read.{mesh};
 ghost use Rattle.gn_obj.specs.Faults.{IsFault};
@@ -14,7 +14,7 @@ use std::alloc::Global;
 fn mesh_of_parts(alloc: Global, parts: Parts) -> Result<Mesh, Memory>
     requires valid { IsValid (topology parts.points.items parts.edges.keys parts.faces.items parts.corner_points.items parts.corner_edges.items) }
     requires numbered { IsNumbered (topology parts.points.items parts.edges.keys parts.faces.items parts.corner_points.items parts.corner_edges.items) }
-    ensures mesh { IfOk result (λ m. plain_of m ≡ mesh_of parts.points.items
+    ensures mesh { IfOk result (λ m. plain_of m ≡ shape_of parts.points.items
         (topology parts.points.items parts.edges.keys parts.faces.items parts.corner_points.items parts.corner_edges.items)) }
     ensures sole { IfOk result IsSole }
 {

@@ -3,6 +3,7 @@ ghost use Rattle.std.specs.Fmt.{decimal};
 ghost use Rattle.std.specs.List.{enumerate_from};
 ghost use Rattle.gn_decimal.specs.Decimal.{dec};
 ghost use Rattle.gn_plain.specs.Topology.{AreOffsets, edge_of, parts_between};
+ghost use Rattle.gn_plain.specs.Geometry.{of_shape};
 ghost use Rattle.gn_geom.specs.Meshes.{plain_of};
 ghost use Rattle.gn_geom.specs.Geometries.{plain_geometry};
 ghost use Rattle.gn_io.specs.Outside.{Rose};
@@ -225,7 +226,7 @@ fn write_corners<K: Sink>(
 
 /// Writes the lines of a mesh: its vertices, then the edges that no face has, then its faces.
 fn write_mesh<K: Sink>(out: &mut K, page: &mut Page, mesh: &Mesh) -> Result<(), Unwritten>
-    ensures { Writes (obj_text (record { mesh = plain_of mesh.now })) (writer (K.held out.old) (K.faults out.old) page.old) (writer (K.held out.new) (K.faults out.new) page.new) result }
+    ensures { Writes (obj_text (of_shape (plain_of mesh.now))) (writer (K.held out.old) (K.faults out.old) page.old) (writer (K.held out.new) (K.faults out.new) page.new) result }
 {
     match write_points(out, page, mesh.points()) {
         Ok(()) => {}

@@ -5,7 +5,7 @@ use Rattle.std.proofs.lemmas.List.Folds.{drop_split, list_any-append}
 use Rattle.std.specs.List.{list_any, zip}
 use Rattle.std.specs.Prelude.{slice_range}
 use Rattle.gn_plain.specs.Geometry.{is_loose}
-use Rattle.gn_plain.specs.Topology.{Topology, IsValid, RiseTo, AreOffsets, corner_of, corners_of, parts_between, faces_of, mesh_of}
+use Rattle.gn_plain.specs.Topology.{Topology, IsValid, RiseTo, AreOffsets, corner_of, corners_of, parts_between, faces_of, shape_of}
 use Rattle.gn_value.specs.declared.vector.V3.{V3}
 
 -- offsets that rise end no lower than they begin
@@ -49,5 +49,5 @@ any_in_faces t n offsets paired = by t.faces offsets
         ∙ ap (λ m. list_any (λ c. c.edge == n) (drop m (corners_of t))) rise.0
         ∙ any_corner n t.corner_points t.corner_edges paired
 
-pub is_loose-mesh_of : (points : List V3) (t : Topology) (n : ℕ) → IsValid t → is_loose (mesh_of points t) n ≡ not (list_any (λ k. k == n) t.corner_edges)
-is_loose-mesh_of points t n valid = ap not (any_in_faces t n valid.offsets valid.paired)
+pub is_loose-shape_of : (points : List V3) (t : Topology) (n : ℕ) → IsValid t → is_loose (shape_of points t) n ≡ not (list_any (λ k. k == n) t.corner_edges)
+is_loose-shape_of points t n valid = ap not (any_in_faces t n valid.offsets valid.paired)

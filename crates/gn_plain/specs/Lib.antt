@@ -1,4 +1,9 @@
+pub mod Equality
 pub mod Edges
+pub mod Columns
 pub mod Geometry
 pub mod Topology
-pub mod Field
+pub mod Interpolation
+pub mod Contexts
+pub mod Fields
+pub mod Subtrees

@@ -3,7 +3,7 @@ use Rattle.std.specs.Prelude.{◌≡◌, ◌≢◌, ℕ, ◌+◌, ◌<◌, ◌�
 use Rattle.std.specs.List.{zip}
 use Rattle.gn_value.specs.declared.vector.V3.{V3}
 use Rattle.gn_plain.specs.Edges.{Edge, edges_around}
-use Rattle.gn_plain.specs.Geometry.{Corner, Mesh}
+use Rattle.gn_plain.specs.Geometry.{Corner, Shape}
 
 -- how many vertices there are, the two vertices of each edge, the vertex and the edge of each corner, and where the corners of each face begin, with the number of corners at last
 pub record Topology : Type 0 where
@@ -13,7 +13,7 @@ pub record Topology : Type 0 where
   pub corner_edges : List ℕ
   pub faces : List ℕ
 
--- ---- the mesh that it stands for
+-- ---- the shape that it stands for
 
 abbrev pub edge_of : ℕ × ℕ → Edge
 edge_of e = record { lesser = e.0; greater = e.1 }
@@ -32,9 +32,9 @@ parts_between _ xs = []
 abbrev pub faces_of : Topology → List (List Corner)
 faces_of t = parts_between t.faces (corners_of t)
 
--- the mesh with vertices at these positions
-abbrev pub mesh_of : List V3 → Topology → Mesh
-mesh_of points t = record { points = points; edges = map edge_of t.edges; faces = faces_of t }
+-- the shape with vertices at these positions
+abbrev pub shape_of : List V3 → Topology → Shape
+shape_of points t = record { points = points; edges = map edge_of t.edges; faces = faces_of t }
 
 -- ---- where it stands for one
 

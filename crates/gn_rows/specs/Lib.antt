@@ -1,3 +1,5 @@
 pub mod Carried
+pub mod Limits
 pub mod SetPosition
+pub mod Choices
 pub mod Library

@@ -7,7 +7,7 @@ use Rattle.gn_decimal.specs.Decimal.{num, after_digits}
 use Rattle.std.proofs.lemmas.Bool.Decides.{nat_tests}
 use Rattle.std.proofs.lemmas.List.Sums.{fold-append}
 use Rattle.std.proofs.lemmas.Grind.{flat_map-append}
-use Rattle.gn_plain.specs.Topology.{IsValid, IsNumbered, edge_of, mesh_of}
+use Rattle.gn_plain.specs.Topology.{IsValid, IsNumbered, edge_of, shape_of}
 use Rattle.gn_lines.specs.Lines.{Text, Line, lines}
 use Rattle.gn_elements.specs.References.{number_of, is_reference, is_end_or_slash, names_vertex, vertex_named, vertices_named, too_many_elements, too_few_references, no_reference, no_vertex}
 use Rattle.gn_elements.specs.Read.{Element, vertex, row, face, nothing, points_of, position_of, vertex_of, all_differ, face_of, with_vertices, element_of, Bad, within, next_element, go_on, elements_from, mesh_or_bad, mesh}
@@ -130,7 +130,7 @@ next_grown above e = sym (fold-append with_element none_yet above (e ∷ []))
 abbrev Reads : List Element → List Line → Type 0
 Reads above ls = AllGood above → fits (grown above) ≡ true → (with_lines (grown above) ls ≡ growth_of (elements_from above ls)) × GoodEnd (elements_from above ls)
 
-fitting : (above : List Element) (n : ℕ) (e : Element) (ls : List Line) (b : Bool) → fits (grown (above ++ e ∷ [])) ≡ b → read.is_within (read.mesh_of (above ++ e ∷ [])) ≡ b → AllGood above → Good (count_of above) e → Reads (above ++ e ∷ []) ls
+fitting : (above : List Element) (n : ℕ) (e : Element) (ls : List Line) (b : Bool) → fits (grown (above ++ e ∷ [])) ≡ b → read.is_within (read.shape_of (above ++ e ∷ [])) ≡ b → AllGood above → Good (count_of above) e → Reads (above ++ e ∷ []) ls
     → (grow_on n (cond b (Ok (grown (above ++ e ∷ []))) (Err too_many_elements)) (λ h. with_lines h ls) ≡ growth_of (go_on n (cond b (Ok e) (Err too_many_elements)) (λ x. elements_from (above ++ x ∷ []) ls)))
     × GoodEnd (go_on n (cond b (Ok e) (Err too_many_elements)) (λ x. elements_from (above ++ x ∷ []) ls))
 fitting above n e ls true f w good k rest = rest (one_more above e good k) f
@@ -151,7 +151,7 @@ reads (l ∷ ls) above all f =
 -- ---- a text
 
 abbrev IsSpelled : Text → Growing → List (ℕ × ℕ) → Type 0
-IsSpelled text g keys = IsValid (topology g keys) × IsNumbered (topology g keys) × (mesh text ≡ Ok (mesh_of g.points (topology g keys)))
+IsSpelled text g keys = IsValid (topology g keys) × IsNumbered (topology g keys) × (mesh text ≡ Ok (shape_of g.points (topology g keys)))
 
 spelled-at : (text : Text) (g : Growing) (keys : List (ℕ × ℕ)) (r : Result (List Element) Bad) → mesh text ≡ mesh_or_bad r → growth_of r ≡ Ok g → GoodEnd r → g.edges ≡ map edge_of keys → IsSpelled text g keys
 spelled-at text g keys (Err bad) m h good k = cc

@@ -3,7 +3,7 @@ use Rattle.std.proofs.Common.{◌≡◌, ℕ, zero, suc, ◌+◌, ◌-◌, ◌<�
 use Rattle.std.proofs.lemmas.List.Sums.{sum_by-cons}
 use Rattle.std.proofs.lemmas.Bool.Decides.{nat_tests}
 use Rattle.gn_plain.specs.Edges.{Edge, edges_around, first_seen}
-use Rattle.gn_plain.specs.Topology.{Topology, IsValid, IsNumbered, IsJoined, AllDiffer, RiseTo, edge_of, edge_at, vertices_of, faces_of, mesh_of}
+use Rattle.gn_plain.specs.Topology.{Topology, IsValid, IsNumbered, IsJoined, AllDiffer, RiseTo, edge_of, edge_at, vertices_of, faces_of, shape_of}
 use Rattle.gn_plain.proofs.EdgeLemmas.{first_seen-fold}
 use Rattle.gn_elements.specs.Read.{Element, points_of, corners, most}
 use Rattle.gn_elements.specs.Read as read
@@ -33,7 +33,7 @@ length-ends : (n : ℕ) (faces : List (List ℕ)) (edges : List Edge) → length
 length-ends n [] edges = refl
 length-ends n (vs ∷ faces) edges = omega (arith, length-ends (n + length vs) faces edges)
 
-pub fits_within : (es : List Element) → fits (grown es) ≡ read.is_within (read.mesh_of es)
+pub fits_within : (es : List Element) → fits (grown es) ≡ read.is_within (read.shape_of es)
 fits_within es =
     let edges = first_seen (edges_among es) in
     let faces : length (grown es).faces - 1 ≡ length (map (corners edges) (faces_in es)) = omega (arith, ap length (grow-faces none_yet es), length-ends 0 (faces_in es) edges) in
@@ -42,7 +42,7 @@ fits_within es =
 
 -- ---- the mesh
 
-pub mesh_again : (es : List Element) (keys : List (ℕ × ℕ)) → (grown es).edges ≡ map edge_of keys → mesh_of (grown es).points (topology (grown es) keys) ≡ read.mesh_of es
+pub mesh_again : (es : List Element) (keys : List (ℕ × ℕ)) → (grown es).edges ≡ map edge_of keys → shape_of (grown es).points (topology (grown es) keys) ≡ read.shape_of es
 mesh_again es keys h =
     let edges = first_seen (edges_among es) in
     let numbers : (grown es).corner_edges ≡ numbers_of edges (faces_in es) = grow-corner_edges none_yet es ∙ ap (λ ks. numbers_of ks (faces_in es)) (edges_seen es) in
