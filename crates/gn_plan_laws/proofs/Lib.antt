@@ -1,0 +1,5 @@
+pub mod Reading
+pub mod Ways
+pub mod Inputs
+pub mod Demanding
+pub mod Standing
