@@ -45,14 +45,14 @@ declared_single (d ∷ ds) name shape all e = by_test (bytes_eq name d.name) (de
     by_test true rest h = let same : d.shape ≡ shape = cc in ap (λ x. x.many) (sym same) ∙ all.0
     by_test false rest h = rest h
 
+-- the input that counts for each name stands in the tree
+abbrev pub InputsReached : Tree → Scope → List Declared → List Named → Type 0
+InputsReached t s ds xs = (name : Text) (x : Named) → find (λ y. bytes_eq name y.name) xs ≡ Some x → Reached t (an_input s (declared ds x.name) x.input)
+
+pub inputs_reached : (t : Tree) (s : Scope) (ds : List Declared) (xs : List Named) → Reached t (the_inputs s ds xs) → InputsReached t s ds xs
+inputs_reached t s ds xs there name x e = part (key name) (an_input s (declared ds x.name) x.input) there (input_part s ds name xs x e)
+
 module _ (t : Tree) (keeps : KeepsRules t) (s : Scope) (way : Way) where
-  -- the input that counts for each name stands in the tree
-  abbrev pub InputsReached : List Declared → List Named → Type 0
-  InputsReached ds xs = (name : Text) (x : Named) → find (λ y. bytes_eq name y.name) xs ≡ Some x → Reached t (an_input s (declared ds x.name) x.input)
-
-  pub inputs_reached : (ds : List Declared) (xs : List Named) → Reached t (the_inputs s ds xs) → InputsReached ds xs
-  inputs_reached ds xs there name x e = part (key name) (an_input s (declared ds x.name) x.input) there (input_part s ds name xs x e)
-
   module _ (P : ℕ → Type 0) where
     -- the nodes that these links come from have P
     abbrev pub From : List Link → Type 0
@@ -86,7 +86,7 @@ module _ (t : Tree) (keeps : KeepsRules t) (s : Scope) (way : Way) where
   has_link (y ∷ xs) x l (inl e) k = has_first (links_of_input y.input) (links_of xs) l (subst (λ z. Has (links_of_input z.input) l) e k)
   has_link (y ∷ xs) x l (inr h) k = has_second (links_of_input y.input) (links_of xs) l (has_link xs x l h k)
 
-  module _ (all : List Declared) (xs : List Named) (there : InputsReached all xs) where
+  module _ (all : List Declared) (xs : List Named) (there : InputsReached t s all xs) where
     module _ (P : ℕ → Type 0) (from : From P (links_of xs)) where
       socket_near : (d : Declared) (default : DefaultValue) → AllNear P (socket_reads s way xs d default)
       socket_near d default = by_found (find (λ x. bytes_eq d.name x.name) xs) refl

@@ -16,10 +16,10 @@ same o v e = e
 module _ {V : Type 0} (rows : Rows Kind V) (given : Given V) (t : Tree) where
   -- where more sites have values, what goes back to them keeps its own
   module _ (f g : Site → Option V) (kept : (site : Site) → Kept (f site) (g site)) where
-    read_kept : (r : Read) → Kept (read_value rows given t f r) (read_value rows given t g r)
+    pub read_kept : (r : Read) → Kept (read_value rows given t f r) (read_value rows given t g r)
     read_kept r = map_kept (λ v. converted rows v r.through) (f r.from) (g r.from) (kept r.from)
 
-    reads_kept : (rs : List Read) → Kept (read_values rows given t f rs) (read_values rows given t g rs)
+    pub reads_kept : (rs : List Read) → Kept (read_values rows given t f rs) (read_values rows given t g rs)
     reads_kept [] = same (Some [])
     reads_kept (r ∷ rs) =
         let rest_of : (Site → Option V) → V → Option (List V) = λ h v. option_map (λ vs. v ∷ vs) (read_values rows given t h rs) in
@@ -42,7 +42,7 @@ module _ {V : Type 0} (rows : Rows Kind V) (given : Given V) (t : Tree) where
         (choice_in rows given t f run) (choice_in rows given t g run) (choice_kept run)
         (λ choice. map_kept (done_for rows given t run) (got f choice) (got g choice) (reads_kept (selected (rows.role run.kind) choice run.reads)))
 
-    output_kept : (run : Run) (s : ℕ) → Kept (run_output rows given t f run s) (run_output rows given t g run s)
+    pub output_kept : (run : Run) (s : ℕ) → Kept (run_output rows given t f run s) (run_output rows given t g run s)
     output_kept run s =
         then_kept (λ done. slice_get done.outputs s) (λ done. slice_get done.outputs s) (run_done rows given t f run) (run_done rows given t g run) (done_kept run) (λ done. same (slice_get done.outputs s))
 

@@ -6,3 +6,5 @@ pub mod There
 pub mod Origins
 pub mod Denotation
 pub mod Demand
+pub mod Given
+pub mod Claims
