@@ -1,6 +1,7 @@
 -- What links carry: geometry, or a field.
 use Rattle.std.specs.Prelude.{ℕ, zero, suc, List, [], ◌∷◌}
-use Rattle.gn_value.specs.Values.{zero_of}
+use Rattle.gn_value.specs.Values.{zero_of, converted}
+use Rattle.gn_value.specs.declared.value.Value.{Value}
 use Rattle.gn_value.specs.declared.value.ValueKind.{ValueKind}
 use Rattle.gn_value.specs.declared.value.ValueKind.TheVariants.{Truth, Int, Fixed, Vector}
 use Rattle.gn_value.specs.declared.op.Op.TheVariants.{Convert}
@@ -15,11 +16,16 @@ pub data Carried (S : Type 0) : Type 0 where
   a_field : Expr S → Carried S
 
 -- the kind that a link converts to, by its number
-abbrev pub kind_numbered : ℕ → ValueKind
-kind_numbered zero = Truth
-kind_numbered (suc zero) = Int
-kind_numbered (suc (suc zero)) = Fixed
-kind_numbered (suc (suc (suc n))) = Vector
+abbrev pub kind_of_number : ℕ → ValueKind
+kind_of_number zero = Truth
+kind_of_number (suc zero) = Int
+kind_of_number (suc (suc zero)) = Fixed
+kind_of_number (suc (suc (suc n))) = Vector
+
+-- a value after conversions to kinds in turn
+abbrev pub value_through : Value → List ℕ → Value
+value_through v [] = v
+value_through v (kind ∷ kinds) = value_through (converted v (kind_of_number kind)) kinds
 
 module _ {S : Type 0} where
   abbrev pub of_leaf : Leaf → Expr S
@@ -37,9 +43,13 @@ module _ {S : Type 0} where
   abbrev pub converted_field : Expr S → ValueKind → Expr S
   converted_field e kind = apply (Convert kind) (and_one e none)
 
+  abbrev pub field_through : Expr S → List ℕ → Expr S
+  field_through e [] = e
+  field_through e (kind ∷ kinds) = field_through (converted_field e (kind_of_number kind)) kinds
+
   abbrev pub convert : Carried S → ℕ → Carried S
   convert (a_geometry g) kind = a_geometry g
-  convert (a_field e) kind = a_field (converted_field e (kind_numbered kind))
+  convert (a_field e) kind = a_field (converted_field e (kind_of_number kind))
 
   abbrev pub geometries : List (Carried S) → List Geometry
   geometries [] = []

@@ -1,5 +1,6 @@
 pub mod Carried
 pub mod Limits
 pub mod SetPosition
+pub mod Moves
 pub mod Choices
 pub mod Library
