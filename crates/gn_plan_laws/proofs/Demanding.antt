@@ -216,6 +216,21 @@ module _ {V : Type 0} (rows : Rows Kind V) (given : Given V) (t : Tree) (root : 
   from_root Ends h r (inl e) = subst (λ x. EndsAt t Ends x.from) (sym e) h
   from_root Ends h r (inr e) = absurd e
 
+  pub root_wanted : (way : Way) (n : ℕ) → IsReadFrom t root (plain_read (at_output way n 0)) → Fits t root.from → Wanted rows given t Roots (at_output way n 0)
+  root_wanted way n h fits = root_brings rows given t Roots (λ s. Unit {0}) (wanted_fits t rows given Roots root_fits) root (plain_read (at_output way n 0)) (inl refl) h
+    where
+      root_fits : (r : Read) → Has Roots r → Fits t r.from
+      root_fits r (inl e) = subst (λ x. Fits t x.from) (sym e) fits
+      root_fits r (inr e) = absurd e
+
+  -- the way of the run that the root comes from
+  pub root_opens : (way : Way) (n : ℕ) → IsReadFrom t root (plain_read (at_output way n 0)) → Fits t root.from → Opens t way
+  root_opens way n h fits = wanted_fits t rows given Roots root_fits (at_output way n 0) (root_wanted way n h fits)
+    where
+      root_fits : (r : Read) → Has Roots r → Fits t r.from
+      root_fits r (inl e) = subst (λ x. Fits t x.from) (sym e) fits
+      root_fits r (inr e) = absurd e
+
   -- ---- nothing runs
 
   none_runs : RunsPlainly rows given t Roots IsAtHand
@@ -258,15 +273,8 @@ module _ {V : Type 0} (rows : Rows Kind V) (given : Given V) (t : Tree) (root : 
             let same : run ≡ d.2 = some_same (ap (option_and_then run_in) (sym at ∙ sym place ∙ found.part)) in
             sym d.4 ∙ ap (λ x. x.path) (sym same)
 
-        root_fits : (r : Read) → Has Roots r → Fits t r.from
-        root_fits r (inl e) = subst (λ x. Fits t x.from) (sym e) fits
-        root_fits r (inr e) = absurd e
-
-        wanted : Wanted rows given t Roots (at_output way n 0)
-        wanted = root_brings rows given t Roots OneOrNone (wanted_fits t rows given Roots root_fits) root (plain_read (at_output way n 0)) (inl refl) h
-
         demanded : Demanded rows given t Roots run.path
-        demanded = (at_output way n 0, wanted, run, ap (option_and_then run_in) at, refl)
+        demanded = (at_output way n 0, root_wanted way n h fits, run, ap (option_and_then run_in) at, refl)
 
         pub demands_one : ListsDemand rows given t Roots (run.path ∷ [])
         demands_one = record {

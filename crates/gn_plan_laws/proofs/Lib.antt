@@ -3,3 +3,4 @@ pub mod Ways
 pub mod Inputs
 pub mod Demanding
 pub mod Standing
+pub mod Planned
