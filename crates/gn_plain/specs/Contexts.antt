@@ -81,8 +81,8 @@ has_column columns name = truth (is_some (entry_named (named name) columns))
 abbrev pub point_at : List V3 → ℕ → V3
 point_at points i = slice_index_or points i (v3 (pos 0) (pos 0) (pos 0))
 
-abbrev pub edge_at : Shape → ℕ → Edge
-edge_at s i = slice_index_or s.edges i (record { lesser = 0; greater = 0 })
+abbrev pub edge_numbered : Shape → ℕ → Edge
+edge_numbered s i = slice_index_or s.edges i (record { lesser = 0; greater = 0 })
 
 -- each vertex of a row with the one behind it
 abbrev pub neighbours : List ℕ → List (ℕ × ℕ)
@@ -95,16 +95,17 @@ around [] = []
 around (a ∷ vs) = neighbours ((a ∷ vs) ++ a ∷ [])
 
 -- for two components a and b, the exact sum around a face of a(i) b(j) less b(i) a(j), each product rounded down
-abbrev pub turn : List V3 → List (ℕ × ℕ) → (V3 → ℤ) → (V3 → ℤ) → ℤ
-turn points pairs a b =
+abbrev pub area_sum : List V3 → List (ℕ × ℕ) → (V3 → ℤ) → (V3 → ℤ) → ℤ
+area_sum points pairs a b =
     total_by (λ q. exact_product (a (point_at points q.0)) (b (point_at points q.1)) -ℤ exact_product (b (point_at points q.0)) (a (point_at points q.1))) pairs
 
-abbrev pub turns : List V3 → List (ℕ × ℕ) → V3
-turns points pairs =
-    v3 (sat (turn points pairs (λ p. p.y.0) (λ p. p.z.0))) (sat (turn points pairs (λ p. p.z.0) (λ p. p.x.0))) (sat (turn points pairs (λ p. p.x.0) (λ p. p.y.0)))
+-- twice the area of a face, as a vector across it
+abbrev pub doubled_area : List V3 → List (ℕ × ℕ) → V3
+doubled_area points pairs =
+    v3 (sat (area_sum points pairs (λ p. p.y.0) (λ p. p.z.0))) (sat (area_sum points pairs (λ p. p.z.0) (λ p. p.x.0))) (sat (area_sum points pairs (λ p. p.x.0) (λ p. p.y.0)))
 
 abbrev pub normal_of : List V3 → List Corner → V3
-normal_of points face = normalized (turns points (around (map (λ c. c.vertex) face)))
+normal_of points face = normalized (doubled_area points (around (map (λ c. c.vertex) face)))
 
 -- the place that an input is known on
 abbrev pub own_place : Input → Place
@@ -119,10 +120,10 @@ own_place _ = place.Point
 abbrev pub own_value : Shape → Input → ℕ → Value
 own_value s position i = vector (point_at s.points i)
 own_value s normal i = vector (normal_of s.points (slice_index_or s.faces i []))
-own_value s edge_index_1 i = number (edge_at s i).lesser
-own_value s edge_index_2 i = number (edge_at s i).greater
-own_value s edge_position_1 i = vector (point_at s.points (edge_at s i).lesser)
-own_value s edge_position_2 i = vector (point_at s.points (edge_at s i).greater)
+own_value s edge_index_1 i = number (edge_numbered s i).lesser
+own_value s edge_index_2 i = number (edge_numbered s i).greater
+own_value s edge_position_1 i = vector (point_at s.points (edge_numbered s i).lesser)
+own_value s edge_position_2 i = vector (point_at s.points (edge_numbered s i).greater)
 own_value s vertex_edges i = number (count_by (λ e. (e.lesser == i) || (e.greater == i)) s.edges)
 own_value s vertex_faces i = number (count_by (λ face. list_any (λ c. c.vertex == i) face) s.faces)
 own_value s x i = zero_of (kind_of_input x)

@@ -45,6 +45,10 @@ pub record Sources (S : Type 0) : Type 0 where
   pub kind : S → ValueKind
   pub value : S → Value → Value
 
+-- where no field is sampled
+abbrev pub no_sources : Sources ⊥
+no_sources = record { kind = λ s. absurd s; value = λ s v. absurd s }
+
 -- ---- what a step gives
 
 abbrev pub kind_of_step : Step → ValueKind
@@ -62,9 +66,9 @@ abbrev pub Reading : Type 0
 Reading = Context → ℕ → Value
 
 -- the value of the element of a number, where there is one
-abbrev pub value_at : ℤ → ℕ → (ℕ → Value) → Value → Value
-value_at (pos n) count value other = if nat_lt n count then value n else other
-value_at (negsuc n) count value other = other
+abbrev pub element_or : ℤ → ℕ → (ℕ → Value) → Value → Value
+element_or (pos n) count value other = if nat_lt n count then value n else other
+element_or (negsuc n) count value other = other
 
 -- is element j one that the sum of element k is over?
 abbrev pub is_in : Part → ℕ → ℕ → Bool
@@ -73,23 +77,23 @@ is_in trailing j k = nat_lt j k
 is_in total j k = true
 
 -- an exact sum, saturated once
-abbrev pub sum_of : ValueKind → List Value → Value
-sum_of Truth vs = zero_of Truth
-sum_of Int vs = int (sat_int (total_by as_int vs))
-sum_of Fixed vs = fixed (fx (sat (total_by as_fixed vs)))
-sum_of Vector vs = vector (v3 (sat (total_by x_of vs)) (sat (total_by y_of vs)) (sat (total_by z_of vs)))
+abbrev pub total_of : ValueKind → List Value → Value
+total_of Truth vs = zero_of Truth
+total_of Int vs = int (sat_int (total_by as_int vs))
+total_of Fixed vs = fixed (fx (sat (total_by as_fixed vs)))
+total_of Vector vs = vector (v3 (sat (total_by x_of vs)) (sat (total_by y_of vs)) (sat (total_by z_of vs)))
 
 abbrev pub same_group : (ℕ → Value) → ℕ → ℕ → Bool
 same_group group j k = int_eq (as_int (group j)) (as_int (group k))
 
 -- of the elements below a count, the sum for element k
 abbrev pub accumulated : ValueKind → Part → ℕ → (ℕ → Value) → (ℕ → Value) → ℕ → Value
-accumulated kind part count value group k = sum_of kind (map value (filter (λ j. is_in part j k && same_group group j k) (range_with_len 0 count)))
+accumulated kind part count value group k = total_of kind (map value (filter (λ j. is_in part j k && same_group group j k) (range_with_len 0 count)))
 
 -- a step's value at an element, where the component has the step's place
 abbrev pub step_within : Step → List Reading → Component → Place → ℕ → Value
 step_within (accumulate kind q part) (value ∷ group ∷ []) c p i = c.interpolated kind q p (accumulated kind part (c.count q) (value (on c q)) (group (on c q))) i
-step_within (at_index kind q) (value ∷ index ∷ []) c p i = value_at (as_int (index (on c p) i)) (c.count q) (value (on c q)) (zero_of kind)
+step_within (at_index kind q) (value ∷ index ∷ []) c p i = element_or (as_int (index (on c p) i)) (c.count q) (value (on c q)) (zero_of kind)
 step_within (on_domain kind q) (value ∷ []) c p i = c.interpolated kind q p (value (on c q)) i
 step_within step _ c p i = zero_of (kind_of_step step)
 

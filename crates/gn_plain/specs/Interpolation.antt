@@ -109,12 +109,12 @@ y_of v = (as_vector v).y.0
 abbrev pub z_of : Value → ℤ
 z_of v = (as_vector v).z.0
 
-abbrev pub joined : ValueKind → Bool → List Value → Value
-joined Truth one vs = truth (truth_of one (map as_truth vs))
-joined Int one vs = int (sat_int (mean_by as_int vs))
-joined Fixed one vs = fixed (fx (sat (mean_by as_fixed vs)))
-joined Vector one vs = vector (v3 (sat (mean_by x_of vs)) (sat (mean_by y_of vs)) (sat (mean_by z_of vs)))
+abbrev pub combined : ValueKind → Bool → List Value → Value
+combined Truth one vs = truth (truth_of one (map as_truth vs))
+combined Int one vs = int (sat_int (mean_by as_int vs))
+combined Fixed one vs = fixed (fx (sat (mean_by as_fixed vs)))
+combined Vector one vs = vector (v3 (sat (mean_by x_of vs)) (sat (mean_by y_of vs)) (sat (mean_by z_of vs)))
 
 -- values of a kind on a place as values on another
 abbrev pub interpolated : Shape → ValueKind → Place → Place → (ℕ → Value) → ℕ → Value
-interpolated s kind from to value i = if same_place from to then value i else joined kind (one_suffices from to) (map value (sources from to s i))
+interpolated s kind from to value i = if same_place from to then value i else combined kind (one_suffices from to) (map value (sources from to s i))

@@ -38,10 +38,10 @@ module _ {S : Type 0} (sources : Sources S) where
 
   abbrev pub with_moved_points : Geometry → Expr S → Expr S → Expr S → Geometry
   with_moved_points g selection position offset = record {
-      mesh = record (g.mesh) { shape = record (g.mesh.shape) { points = moved_points (move_in (context g Point) selection position offset) g.mesh.shape.points } };
-      cloud = record (g.cloud) { points = moved_points (move_in (context g Cloud) selection position offset) g.cloud.points };
-      instances = moved_instances (move_in (context g Instance) selection position offset) g.instances;
-    }
+    mesh = record (g.mesh) { shape = record (g.mesh.shape) { points = moved_points (move_in (context g Point) selection position offset) g.mesh.shape.points } };
+    cloud = record (g.cloud) { points = moved_points (move_in (context g Cloud) selection position offset) g.cloud.points };
+    instances = moved_instances (move_in (context g Instance) selection position offset) g.instances;
+  }
 
   abbrev pub set_position : List (Carried S) → List (Carried S)
   set_position (a_geometry g ∷ a_field selection ∷ a_field position ∷ a_field offset ∷ []) = a_geometry (with_moved_points g selection position offset) ∷ []
