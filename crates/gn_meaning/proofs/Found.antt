@@ -1,6 +1,6 @@
 -- A link for which the rules find what it carries leads from a site of its list, and so do the inputs of nodes and what lists give out.
-use Rattle.std.proofs.Common.{◌≡◌, ◌≤◌, ◌<◌, ◌+◌, ◌⊎◌, inl, inr, ℕ, zero, suc, List, [], ◌∷◌, ◌++◌, length, map, Option, Some, None, codes, refl, sym, ◌∙◌, ap, subst, arith}
-use Rattle.std.specs.Prelude.{Bool, true, false, find, bytes_eq, slice_get, is_none, option_map, option_and_then, if◌then◌else◌}
+use Rattle.std.proofs.Common.{◌≡◌, ◌<◌, ◌+◌, ℕ, suc, List, [], ◌∷◌, length, map, Option, Some, None, codes, refl, sym, ◌∙◌, ap, subst, arith}
+use Rattle.std.specs.Prelude.{Bool, true, false, find, bytes_eq, is_none, option_map, option_and_then, if◌then◌else◌}
 use Rattle.std.specs.List.{position_from}
 use Rattle.gn_kinds.specs.declared.row.SocketKind.{SocketKind}
 use Rattle.gn_kinds.specs.Row.{Text}
@@ -11,7 +11,6 @@ use Rattle.gn_rules.specs.Sockets.{Declared, declared, outputs_of, ids, node_at,
 use Rattle.gn_rules.specs.Scopes.{Scope, source}
 use Rattle.gn_meaning.specs.Sites.{Constant, Way, Site, at_output, at_input, at_constant}
 use Rattle.gn_meaning.specs.Reads.{number_in, link_site, link_read, read_from}
-use Rattle.gn_meaning.proofs.Options.{some_same, map_some}
 
 -- a number, below n
 abbrev Below : ℕ → Option ℕ → Type 0

@@ -1,5 +1,5 @@
 -- In a tree that keeps the rules, each site that is there goes back to constants and inputs of the tree.
-use Rattle.std.proofs.Common.{◌≡◌, ◌<◌, ◌≤◌, ◌+◌, ◌⊎◌, inl, inr, ℕ, zero, suc, List, [], ◌∷◌, length, map, Option, Some, None, codes, refl, sym, ◌∙◌, ap, subst, arith}
+use Rattle.std.proofs.Common.{◌≡◌, ◌<◌, inl, inr, ℕ, zero, suc, List, [], length, map, Some, sym, ◌∙◌, ap, subst, arith}
 use Rattle.std.specs.Prelude.{IsTrue}
 use Rattle.std.specs.Option.{option_map_or}
 use Rattle.std.proofs.lemmas.List.{length-map}
@@ -19,7 +19,7 @@ use Rattle.gn_meaning.specs.There.{LeadsTo, to_the_tree, into_group, into_turn, 
 use Rattle.gn_meaning.proofs.Options.{some_same}
 use Rattle.gn_meaning.proofs.Found.{Near, constant as near_constant, entry, output}
 use Rattle.gn_meaning.proofs.Reached.{keeps_rule}
-use Rattle.gn_meaning.proofs.Inputs.{AllNear, reads_near, has_read}
+use Rattle.gn_meaning.proofs.Inputs.{reads_near, has_read}
 use Rattle.gn_meaning.proofs.Order.{Ends, ends, walks_end, node_leading}
 use Rattle.gn_meaning.proofs.Parts.{singles, Holds}
 use Rattle.gn_meaning.proofs.Opened.{reads_in, Smaller, Opens, part_of, part_near, group_opens, repeat_opens, at_way}

@@ -1,9 +1,9 @@
 -- In a tree that keeps the rules, what the inputs of nodes and of outputs read is near.
-use Rattle.std.proofs.Common.{◌≡◌, ◌<◌, ◌+◌, ◌⊎◌, inl, inr, ℕ, zero, suc, List, [], ◌∷◌, ◌++◌, length, map, Option, Some, None, refl, sym, ◌∙◌, ap, subst, arith}
+use Rattle.std.proofs.Common.{◌≡◌, ◌<◌, ◌+◌, inl, inr, ℕ, suc, List, [], ◌∷◌, ◌++◌, length, Option, Some, None, refl, sym, ◌∙◌, ap, subst, arith}
 use Rattle.std.specs.Prelude.{Bool, true, false, not, ◌||◌, IsTrue, find, bytes_eq, is_none, slice_get, option_map, if◌then◌else◌}
 use Rattle.std.specs.Option.{option_map_or}
 use Rattle.std.specs.List.{list_any}
-use Rattle.std.proofs.lemmas.List.{length-append, length-map}
+use Rattle.std.proofs.lemmas.List.{length-append}
 use Rattle.gn_kinds.specs.declared.row.SocketKind.{SocketKind}
 use Rattle.gn_kinds.specs.declared.row.DefaultValue.{DefaultValue}
 use Rattle.gn_kinds.specs.declared.row.DefaultValue.TheVariants.{Zero}
@@ -15,7 +15,7 @@ use Rattle.gn_rules.specs.declared.rule.Rule.TheVariants as rule
 use Rattle.gn_rules.specs.declared.shape.Shape.{Shape}
 use Rattle.gn_rules.specs.Sockets.{Declared, declared, ids}
 use Rattle.gn_rules.specs.Scopes.{Scope, source}
-use Rattle.gn_rules.specs.Things.{Thing, the_inputs, an_input, a_link}
+use Rattle.gn_rules.specs.Things.{the_inputs, an_input, a_link}
 use Rattle.gn_rules.specs.Rules.{KeepsRules, links_of_input, links_of, link_clashes}
 use Rattle.gn_node_set.specs.Meanings.{Has}
 use Rattle.gn_meaning.specs.Sites.{Way, at_constant, a_value, default_at, Read, plain_read, nowhere}

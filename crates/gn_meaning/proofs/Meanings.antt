@@ -1,5 +1,5 @@
 -- In a tree that keeps the rules, each site that is there and each that is wanted has one value, and each of their runs ends.
-use Rattle.std.proofs.Common.{◌≡◌, ◌⊎◌, inl, inr, List, [], ◌∷◌, Some, sym, ◌∙◌, ap, subst}
+use Rattle.std.proofs.Common.{◌≡◌, inl, inr, [], ◌∷◌, Some, sym, subst}
 use Rattle.gn_tree.specs.NodeKinds.{Kind}
 use Rattle.gn_tree.specs.Trees.{Tree}
 use Rattle.gn_rules.specs.Rules.{KeepsRules}
@@ -8,7 +8,7 @@ use Rattle.gn_meaning.specs.Sites.{Site, Read}
 use Rattle.gn_meaning.specs.Reads.{Run, run_of}
 use Rattle.gn_meaning.specs.Forms.{HasForm}
 use Rattle.gn_meaning.specs.There.{IsThere}
-use Rattle.gn_meaning.specs.Denotation.{Given, StandsAt, Ends}
+use Rattle.gn_meaning.specs.Denotation.{Given, Ends}
 use Rattle.gn_meaning.specs.Demand.{Wanted, output_read}
 use Rattle.gn_meaning.specs.Given.{GivesAll}
 use Rattle.gn_meaning.specs.Claims.{HasOneValue}

@@ -1,5 +1,5 @@
 -- In a tree that keeps the rules, the parts of a list: what they read, and the lists that they open.
-use Rattle.std.proofs.Common.{◌≡◌, ◌<◌, ◌≤◌, ◌+◌, ◌⊎◌, inl, inr, ℕ, zero, suc, List, [], ◌∷◌, length, map, Option, Some, None, codes, refl, sym, ◌∙◌, ap, subst, arith}
+use Rattle.std.proofs.Common.{◌≡◌, ◌<◌, ◌≤◌, ◌⊎◌, inl, inr, ℕ, zero, suc, List, ◌∷◌, length, map, Option, Some, None, codes, refl, sym, ◌∙◌, ap, subst, arith}
 use Rattle.std.specs.Prelude.{Bool, true, false, bytes_eq, IsTrue, option_map, option_and_then, if◌then◌else◌}
 use Rattle.std.proofs.lemmas.List.{length-map}
 use Rattle.std.proofs.lemmas.Slice.Eq.{bytes_eq-Decides}
@@ -7,19 +7,19 @@ use Rattle.gn_lazy.specs.declared.path.PathStep.{PathStep}
 use Rattle.gn_kinds.specs.declared.row.SocketKind.TheVariants.{Int}
 use Rattle.gn_kinds.specs.Row.{Text}
 use Rattle.gn_places.specs.Place.{key}
-use Rattle.gn_tree.specs.Trees.{Named, Node, node, Settings, Socket, Nodes, no_nodes, and_node, Tree, node_size, settings_size, nodes_size}
+use Rattle.gn_tree.specs.Trees.{Named, Node, node, Settings, Nodes, no_nodes, and_node, Tree, node_size, settings_size, nodes_size}
 use Rattle.gn_cycle.specs.Graph.{has_edge}
 use Rattle.gn_rules.specs.Sockets.{Declared, one, one_of, group_in, items_in, inputs_of, outputs_of, inputs_of_kind, node_at}
 use Rattle.gn_rules.specs.Things.{the_settings, the_inputs}
 use Rattle.gn_rules.specs.Rules.{KeepsRules, graph_of}
 use Rattle.gn_node_set.specs.Meanings.{Has}
-use Rattle.gn_meaning.specs.Sites.{Way, the_tree, into, plain_step, turn_step, path_of, Read}
-use Rattle.gn_meaning.specs.Bodies.{Body, tree_body, body_in, body_of, body_at, kind_in}
-use Rattle.gn_meaning.specs.Reads.{default_of, node_reads, given_out, read_at, Run, Part, a_node, a_group, a_repeat, part_by, part_in, part_at}
+use Rattle.gn_meaning.specs.Sites.{Way, into, plain_step, turn_step, path_of, Read}
+use Rattle.gn_meaning.specs.Bodies.{Body, body_in, body_of, body_at, kind_in}
+use Rattle.gn_meaning.specs.Reads.{default_of, node_reads, read_at, Run, Part, a_node, a_group, a_repeat, part_by, part_in, part_at}
 use Rattle.gn_meaning.specs.Forms.{SettingsHaveForm, HasForm}
 use Rattle.gn_meaning.specs.There.{LeadsTo, to_the_tree, into_group, into_turn}
 use Rattle.gn_meaning.proofs.Options.{some_same, map_some}
-use Rattle.gn_meaning.proofs.Reached.{Reached, part}
+use Rattle.gn_meaning.proofs.Reached.{part}
 use Rattle.gn_meaning.proofs.Inputs.{AllSingle, InputsReached, inputs_reached, AllNear, reads_near, has_read}
 use Rattle.gn_meaning.proofs.Order.{edge_of_link}
 use Rattle.gn_meaning.proofs.Parts.{further_group, further_zone, group_inputs, group_outputs, zone_inputs, zone_outputs, singles, Inner, group_inner, zone_inner, inner_of, Holds, node_form, holds_tree, holds_inner}
@@ -103,23 +103,27 @@ module _ (t : Tree) (keeps : KeepsRules t) (form : HasForm t) where
 
     opened : (inner : Body) → body_in b.scope kind set ≡ Some inner → Holds t inner → Inner t b.scope kind (group_in set) (items_in set) (settings_size set) inner
         → Opens t b x inner (node_reads b.scope way x) × ((bytes_eq kind (codes "group") ≡ false) → length inner.scope.entries ≡ suc (length inner.sockets))
-    opened inner e holds_it (group_inner name i g named at group above is) =
-        (record {
-          body = e;
-          holds = holds_it;
-          smaller = inl above;
-          outs = ap length (group_outputs b.scope.groups id kind set inputs g.outputs is (further_group (λ h. h.outputs) b.scope.groups set name i g named at group)) ∙ length-map g.outputs one_of;
-          has = has_input (map one_of g.inputs) (group_inputs b.scope.groups id kind set inputs g.inputs is (further_group (λ h. h.inputs) b.scope.groups set name i g named at group)) (singles g.inputs);
-        }, λ other. absurd (let yes : bytes_eq kind (codes "group") ≡ true = (bytes_eq-Decides kind (codes "group")).1 is in cc))
+    opened inner e holds_it (group_inner name i g named at group above is) = (
+      record {
+        body = e;
+        holds = holds_it;
+        smaller = inl above;
+        outs = ap length (group_outputs b.scope.groups id kind set inputs g.outputs is (further_group (λ h. h.outputs) b.scope.groups set name i g named at group)) ∙ length-map g.outputs one_of;
+        has = has_input (map one_of g.inputs) (group_inputs b.scope.groups id kind set inputs g.inputs is (further_group (λ h. h.inputs) b.scope.groups set name i g named at group)) (singles g.inputs);
+      },
+      λ other. absurd (let yes : bytes_eq kind (codes "group") ≡ true = (bytes_eq-Decides kind (codes "group")).1 is in cc),
+    )
     opened inner e holds_it (zone_inner xs nodes output named items smaller is has_form nodes_there output_there) =
-        let size : node_size x ≤ nodes_size b.scope.nodes = node_smaller b.scope.nodes n x there in
-        (record {
-          body = e;
-          holds = holds_it;
-          smaller = inr (refl, omega (arith, size, smaller));
-          outs = ap length (zone_outputs b.scope.groups id kind set inputs xs is (further_zone (λ h. h.outputs) b.scope.groups set named ∙ items)) ∙ length-map xs one_of;
-          has = has_input (one (codes "iterations") Int ∷ map one_of xs) (zone_inputs b.scope.groups id kind set inputs xs is (further_zone (λ h. h.inputs) b.scope.groups set named ∙ items)) (refl, singles xs);
-        }, λ _. ap suc (length-map xs one_of))
+        let size : node_size x ≤ nodes_size b.scope.nodes = node_smaller b.scope.nodes n x there in (
+          record {
+            body = e;
+            holds = holds_it;
+            smaller = inr (refl, omega (arith, size, smaller));
+            outs = ap length (zone_outputs b.scope.groups id kind set inputs xs is (further_zone (λ h. h.outputs) b.scope.groups set named ∙ items)) ∙ length-map xs one_of;
+            has = has_input (one (codes "iterations") Int ∷ map one_of xs) (zone_inputs b.scope.groups id kind set inputs xs is (further_zone (λ h. h.inputs) b.scope.groups set named ∙ items)) (refl, singles xs);
+          },
+          λ _. ap suc (length-map xs one_of),
+        )
 
     pub opens : (inner : Body) → body_in b.scope kind set ≡ Some inner → Opens t b x inner (node_reads b.scope way x) × ((bytes_eq kind (codes "group") ≡ false) → length inner.scope.entries ≡ suc (length inner.sockets))
     opens inner e =

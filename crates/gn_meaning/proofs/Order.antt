@@ -30,12 +30,14 @@ without n (x ∷ xs) d = by_test (x == n) refl (without n xs d.1)
     by_test true e rest =
         let same : x ≡ n = (Decides-eqb x n).0 e in
         (xs, (d.1, λ y h. (inr h, λ at. d.0 (subst (Has xs) (at ∙ sym same) h)), omega arith))
-    by_test false e (ys, (f, sub, count)) =
-        (x ∷ ys, (
-          (λ h. d.0 (sub x h).0, f),
-          λ y h. elim h as (λ _. Has (x ∷ xs) y × (y ≢ n)) [ inl same ↦ (inl same, λ at. not_same x n e (sym same ∙ at)) | inr k ↦ (inr (sub y k).0, (sub y k).1) ],
-          omega (arith, count),
-        ))
+    by_test false e (ys, (f, sub, count)) = (
+      x ∷ ys,
+      (
+        (λ h. d.0 (sub x h).0, f),
+        λ y h. elim h as (λ _. Has (x ∷ xs) y × (y ≢ n)) [ inl same ↦ (inl same, λ at. not_same x n e (sym same ∙ at)) | inr k ↦ (inr (sub y k).0, (sub y k).1) ],
+        omega (arith, count),
+      ),
+    )
 
 lower : (y n : ℕ) → y < suc n → y ≢ n → y < n
 lower y n h other = elim (cases y n h) as (λ _. y < n) [ inl less ↦ less | inr same ↦ absurd (other same) ]
@@ -75,9 +77,9 @@ module _ (graph : Graph) (none : (i : ℕ) → ¬ Leads graph i i) where
   ends_behind : (k : ℕ) (seen : List ℕ) (i : ℕ) → Passed seen i → length graph ≤ length seen + k → Ends graph i
   ends_behind zero seen i p room =
       ends (λ j e.
-        let more : Passed (i ∷ seen) j = one_more seen i j p e in
-        let count : suc (length seen) ≤ length graph = few (length graph) (i ∷ seen) more.differ more.below in
-        absurd (omega (arith, count, room)))
+      let more : Passed (i ∷ seen) j = one_more seen i j p e in
+      let count : suc (length seen) ≤ length graph = few (length graph) (i ∷ seen) more.differ more.below in
+      absurd (omega (arith, count, room)))
   ends_behind (suc k) seen i p room = ends (λ j e. ends_behind k (i ∷ seen) j (one_more seen i j p e) (omega (arith, room)))
 
   pub walks_end : (i : ℕ) → Ends graph i
@@ -100,6 +102,7 @@ has_number names (k ∷ ls) l m (inr h) e = by_first (first_of names k.from) (ha
     or_true : (b c : Bool) → c ≡ true → (b || c) ≡ true
     or_true true c f = refl
     or_true false c f = f
+
     by_first : (o : Option ℕ) → IsTrue (has (numbers_of names ls) m) → IsTrue (has (option_map_or (λ i. i ∷ numbers_of names ls) o (numbers_of names ls)) m)
     by_first None f = f
     by_first (Some i) f = or_true (i == m) (has (numbers_of names ls) m) f

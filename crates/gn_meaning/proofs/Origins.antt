@@ -1,5 +1,5 @@
 -- A site has one origin, and its value is that of its origin after the conversions on the way.
-use Rattle.std.proofs.Common.{◌≡◌, ◌≤◌, ◌+◌, ◌++◌, ℕ, zero, suc, pos, List, [], ◌∷◌, Option, Some, None, refl, sym, ◌∙◌, ap, subst, arith}
+use Rattle.std.proofs.Common.{◌≡◌, ◌++◌, ℕ, zero, suc, pos, List, [], ◌∷◌, Option, Some, None, refl, sym, ◌∙◌, ap, subst}
 use Rattle.std.specs.Prelude.{option_map}
 use Rattle.gn_value.specs.declared.value.Value.TheVariants.{Int as int}
 use Rattle.gn_lazy.specs.declared.path.PathStep.{PathStep}
@@ -9,7 +9,7 @@ use Rattle.gn_node_set.specs.Meanings.{Rows, converted}
 use Rattle.gn_meaning.specs.Sites.{Constant, a_value, Way, the_tree, into, plain_step, turn_step, Site, at_output, at_input, at_item, at_constant, nowhere, Read, plain_read}
 use Rattle.gn_meaning.specs.Reads.{read_at, Part, a_node, a_group, a_repeat, part_at, out_of}
 use Rattle.gn_meaning.specs.Denotation.{Given, read_value, output_value, turn_value, input_value, first_item, next, value_within, StandsAt}
-use Rattle.gn_meaning.specs.Origins.{read_origin, output_origin, turn_origin, input_origin, first_origin, next_origin, origin_within, ComesFrom, IsReadFrom}
+use Rattle.gn_meaning.specs.Origins.{read_origin, output_origin, turn_origin, input_origin, first_origin, next_origin, origin_within, ComesFrom}
 use Rattle.gn_meaning.proofs.Options.{Kept, map_kept, map_some, some_same, found_once}
 use Rattle.gn_meaning.proofs.Values.{one_value}
 
@@ -221,9 +221,11 @@ module _ {V : Type 0} (rows : Rows Kind V) (given : Given V) (t : Tree) where
   found_back k j before site o w h (to_read r) f d =
       let inner : (q : Read) × (origin_within t k r.from ≡ Some q) × (record { from = q.from; through = q.through ++ r.through } ≡ o) = map_some (λ q. record { from = q.from; through = q.through ++ r.through }) (origin_within t k r.from) o d in
       let read : (u : V) × (value_within rows given t j r.from ≡ Some u) × (converted rows u r.through ≡ w) = map_some (λ u. converted rows u r.through) (value_within rows given t j r.from) w f in
-      let there : Carried inner.0 read.0 = before r.from inner.0 inner.1 j read.0 read.1 in
-      (there.0, moved inner.0.from o.from there.0 (ap (λ q. q.from) inner.2) there.1,
-        ap (λ q. converted rows there.0 q.through) (sym inner.2) ∙ converted_on there.0 inner.0.through r.through ∙ ap (λ u. converted rows u r.through) there.2 ∙ read.2)
+      let there : Carried inner.0 read.0 = before r.from inner.0 inner.1 j read.0 read.1 in (
+        there.0,
+        moved inner.0.from o.from there.0 (ap (λ q. q.from) inner.2) there.1,
+        ap (λ q. converted rows there.0 q.through) (sym inner.2) ∙ converted_on there.0 inner.0.through r.through ∙ ap (λ u. converted rows u r.through) there.2 ∙ read.2,
+      )
   found_back k j before site o w h (to_site other) f d = before other o d j w f
   found_back k j before site o w h (to_constant c) f d =
       (w, moved (at_constant c) o.from w (ap (λ q. q.from) (some_same d)) (1, f), ap (λ q. converted rows w q.through) (sym (some_same d)))

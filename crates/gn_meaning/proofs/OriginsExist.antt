@@ -1,5 +1,5 @@
 -- A site that goes back to constants and inputs of the tree has an origin.
-use Rattle.std.proofs.Common.{◌≡◌, ◌++◌, ℕ, zero, suc, pos, List, Option, Some, None, refl, ◌∙◌, ap}
+use Rattle.std.proofs.Common.{◌≡◌, ◌++◌, ℕ, suc, pos, Some, refl, ◌∙◌, ap}
 use Rattle.std.specs.Prelude.{option_map}
 use Rattle.gn_value.specs.declared.value.Value.TheVariants.{Int as int}
 use Rattle.gn_tree.specs.Trees.{Tree}

@@ -1,33 +1,24 @@
 -- In a tree that keeps the rules, each list that a way leads to keeps them, and so do the parts of its nodes.
-use Rattle.std.proofs.Common.{◌≡◌, ◌<◌, ◌≤◌, ◌+◌, ◌⊎◌, inl, inr, ℕ, zero, suc, List, [], ◌∷◌, ◌++◌, length, map, Option, Some, None, codes, refl, sym, ◌∙◌, ap, subst, arith}
-use Rattle.std.specs.Prelude.{Bool, true, false, not, find, bytes_eq, nat_lt, slice_get, IsTrue, option_map, option_and_then, if◌then◌else◌}
+use Rattle.std.proofs.Common.{◌≡◌, ◌<◌, ◌+◌, ℕ, zero, suc, List, [], ◌∷◌, ◌++◌, map, Option, Some, None, codes, refl, sym, ◌∙◌, ap, subst, arith}
+use Rattle.std.specs.Prelude.{Bool, true, false, not, bytes_eq, nat_lt, slice_get, IsTrue, option_map, if◌then◌else◌}
 use Rattle.std.specs.Option.{option_map_or}
 use Rattle.std.proofs.lemmas.Bool.Decides.{nat_tests}
-use Rattle.std.proofs.lemmas.List.{length-map}
-use Rattle.std.proofs.lemmas.Slice.Eq.{bytes_eq-Decides}
 use Rattle.gn_kinds.specs.declared.row.SocketKind.TheVariants.{Int, Geometry}
 use Rattle.gn_kinds.specs.Row.{Text}
 use Rattle.gn_kinds.specs.Table.{row_of_kind, table, values, functions, elsewhere, attributes, geometry_kinds, instance_kinds, groups}
 use Rattle.gn_names.specs.First.{first_of}
 use Rattle.gn_places.specs.Place.{Step, index, key, part_at as member_at}
-use Rattle.gn_tree.specs.Trees.{Input, Named, Socket, Node, node, Settings, no_settings, and_setting, and_zone, Nodes, no_nodes, and_node, Group, Tree, of_group, node_size, settings_size, nodes_size}
-use Rattle.gn_cycle.specs.Graph.{has_edge}
+use Rattle.gn_tree.specs.Trees.{Input, Named, Socket, Node, node, Settings, no_settings, and_setting, and_zone, Nodes, no_nodes, and_node, Group, Tree, of_group, settings_size, nodes_size}
 use Rattle.gn_rules.specs.declared.rule.Rule.TheVariants as rule
 use Rattle.gn_rules.specs.Sockets.{declared, single, one, one_of, chosen, group_in, items_in, further, inputs_of, outputs_of, inputs_of_kind, outputs_of_kind, input_of_row, output_of_row, group_names, node_at}
 use Rattle.gn_rules.specs.Scopes.{Scope, tree_scope, group_scope, zone_scope, is_above}
-use Rattle.gn_rules.specs.Things.{Thing, the_tree, the_groups, a_group as a_group_thing, all_nodes, the_nodes, a_node as a_node_thing, the_settings, a_group_name, the_inputs, an_input, given_out as given_out_thing, parts, settings_under, output_under}
-use Rattle.gn_rules.specs.Rules.{KeepsRules, graph_of}
-use Rattle.gn_node_set.specs.Meanings.{Has}
-use Rattle.gn_meaning.specs.Sites.{Way, the_tree as top, into, plain_step, turn_step, path_of, Read}
-use Rattle.gn_meaning.specs.Bodies.{Body, output_of, tree_body, group_body, group_named, zone_body, body_in, body_of, body_at, kind_in}
-use Rattle.gn_meaning.specs.Reads.{default_of, node_reads, given_out, read_at, Run, Part, a_node, a_group, a_repeat, part_by, part_in, part_at}
+use Rattle.gn_rules.specs.Things.{Thing, the_groups, a_group as a_group_thing, all_nodes, the_nodes, a_node as a_node_thing, a_group_name, an_input, given_out as given_out_thing, settings_under, output_under}
+use Rattle.gn_rules.specs.Rules.{KeepsRules}
+use Rattle.gn_meaning.specs.Bodies.{Body, output_of, tree_body, group_body, group_named, zone_body, body_in}
 use Rattle.gn_meaning.specs.Forms.{NodesHaveForm, NodeHasForm, SettingsHaveForm, GroupsHaveForm, HasForm}
-use Rattle.gn_meaning.specs.There.{LeadsTo, to_the_tree, into_group, into_turn}
 use Rattle.gn_meaning.proofs.Options.{some_same, then_some, map_some}
-use Rattle.gn_meaning.proofs.Found.{Near}
 use Rattle.gn_meaning.proofs.Reached.{Reached, at_top, part, keeps_rule, node_part, group_part}
-use Rattle.gn_meaning.proofs.Inputs.{AllSingle, InputsReached, inputs_reached, AllNear, reads_near, has_read}
-use Rattle.gn_meaning.proofs.Order.{edge_of_link}
+use Rattle.gn_meaning.proofs.Inputs.{AllSingle, InputsReached, inputs_reached}
 
 -- ---- what groups and zones declare
 
@@ -147,6 +138,7 @@ module _ (t : Tree) where
               subst (λ z. Reached t (an_input (tree_scope t) (declared (map one_of (tree_body t).sockets) z.name) z.input)) (some_same h)
               (part (key (codes "output")) (an_input (tree_scope t) (Some (single Geometry)) x) at_top (ap (λ o. member_at (key (codes "output")) (output_under (tree_scope t) o)) at))
           by_test false h = cc
+
       out_of_tree : (o : Option Input) → t.output ≡ o → InputsReached t (tree_scope t) (map one_of (tree_body t).sockets) (output_of o)
       out_of_tree None at = λ name y e. cc
       out_of_tree (Some x) at = one_input x at

@@ -1,6 +1,6 @@
 -- A path names one node of one list, and the path of a run is that of its node.
 use Rattle.std.proofs.Common.{◌≡◌, ◌≤◌, ℕ, suc, length, [], ◌∷◌, Option, Some, None, codes, refl, sym, ◌∙◌, ap, arith}
-use Rattle.std.specs.Prelude.{Bool, true, false, bytes_eq, option_and_then, option_map, if◌then◌else◌}
+use Rattle.std.specs.Prelude.{Bool, true, false, bytes_eq, option_map, if◌then◌else◌}
 use Rattle.gn_lazy.specs.declared.path.PathStep.{PathStep}
 use Rattle.gn_kinds.specs.Row.{Text}
 use Rattle.gn_tree.specs.Trees.{Tree, Node, node}
@@ -8,7 +8,7 @@ use Rattle.gn_rules.specs.Sockets.{node_at}
 use Rattle.gn_node_set.specs.Paths.{Path}
 use Rattle.gn_meaning.specs.Sites.{Way, the_tree, into, plain_step, path_by, path_of, at_output}
 use Rattle.gn_meaning.specs.Bodies.{Body, body_in, body_at, kind_in}
-use Rattle.gn_meaning.specs.Reads.{Run, Part, a_node, a_group, a_repeat, part_by, part_in, part_at, node_reads, run_in, run_of}
+use Rattle.gn_meaning.specs.Reads.{Run, Part, a_group, a_repeat, part_by, part_in, part_at, node_reads, run_in, run_of}
 use Rattle.gn_meaning.proofs.Options.{some_same, then_some, map_some}
 
 -- ---- a way and the steps behind it are known by the path

@@ -1,19 +1,18 @@
 -- What stands in a tree that keeps the rules keeps them.
-use Rattle.std.proofs.Common.{◌≡◌, ◌<◌, ◌+◌, ◌⊎◌, inl, inr, ℕ, zero, suc, List, [], ◌∷◌, length, Option, Some, None, codes, refl, sym, ◌∙◌, ap, subst, arith}
-use Rattle.std.specs.Prelude.{Bool, true, false, not, find, bytes_eq, slice_get, is_none, IsTrue, ◌||◌, if◌then◌else◌}
+use Rattle.std.proofs.Common.{◌≡◌, ◌<◌, ◌+◌, ℕ, zero, suc, List, [], ◌∷◌, Option, Some, refl, sym, ◌∙◌, ap, subst, arith}
+use Rattle.std.specs.Prelude.{Bool, true, false, find, bytes_eq, slice_get, if◌then◌else◌}
 use Rattle.std.specs.declared.cmp.Ordering.{Ordering}
 use Rattle.std.specs.declared.cmp.Ordering.TheVariants.{Less, Equal, Greater}
-use Rattle.std.specs.Ordering.{nat_cmp, is_eq, ordering_then, MatchOrdering}
+use Rattle.std.specs.Ordering.{nat_cmp, is_eq, ordering_then}
 use Rattle.std.specs.Cmp.Lexicographic.{slice_cmp}
 use Rattle.std.proofs.lemmas.Bool.Decides.{nat_tests}
-use Rattle.std.proofs.lemmas.Cmp.{ranked, tied_itself, nat_cmp_total}
+use Rattle.std.proofs.lemmas.Cmp.{ranked, tied_itself}
 use Rattle.std.proofs.lemmas.Slice.Eq.{bytes_eq-Decides}
 use Rattle.gn_kinds.specs.Row.{Text}
-use Rattle.gn_places.specs.Place.{Step, index, key, Place, step_cmp, part_at, Holds, IsBadAt}
+use Rattle.gn_places.specs.Place.{Step, index, key, Place, part_at, Holds, IsBadAt}
 use Rattle.gn_places.proofs.Order.{step_total}
-use Rattle.gn_tree.specs.Trees.{Link, Input, Named, Node, Nodes, no_nodes, and_node, Group, Tree}
+use Rattle.gn_tree.specs.Trees.{Link, Named, Node, Nodes, no_nodes, and_node, Group, Tree}
 use Rattle.gn_rules.specs.declared.rule.Rule.{Rule}
-use Rattle.gn_rules.specs.declared.shape.Shape.{Shape}
 use Rattle.gn_rules.specs.Sockets.{Declared, declared, node_at}
 use Rattle.gn_rules.specs.Scopes.{Scope}
 use Rattle.gn_rules.specs.Things.{Thing, the_tree, a_group, a_node, an_input, a_link, parts, Parts, groups_from, nodes_from, links_from, inputs_under}

@@ -1,22 +1,18 @@
 -- A site that goes back to constants and inputs of the tree has a value, where rows give all that they should.
-use Rattle.std.proofs.Common.{◌≡◌, ◌<◌, ◌≤◌, ◌+◌, ◌⊎◌, inl, inr, ℕ, zero, suc, List, [], ◌∷◌, length, Option, Some, None, refl, sym, ◌∙◌, ap, subst, arith}
+use Rattle.std.proofs.Common.{◌≡◌, ◌<◌, ◌≤◌, ◌+◌, inl, inr, ℕ, zero, suc, List, [], ◌∷◌, length, Option, Some, None, refl, sym, ◌∙◌, ap, subst, arith}
 use Rattle.std.specs.Prelude.{option_map, option_and_then, slice_get}
 use Rattle.gn_tree.specs.NodeKinds.{Kind}
 use Rattle.gn_tree.specs.Trees.{Tree}
 use Rattle.gn_rules.specs.Scopes.{tree_entries}
-use Rattle.gn_rules.specs.Rules.{KeepsRules}
 use Rattle.gn_node_set.specs.Meanings.{Has, Role, Plain, Switch, File, Zone, Choice, one_case, all_cases, no_case, head_of, tail_of, member, chosen, selected, first_read, then_read, Done, Rows, converted}
-use Rattle.gn_meaning.specs.Sites.{Way, the_tree, into, plain_step, turn_step, Site, at_output, at_input, at_item, at_constant, nowhere, Read, plain_read}
-use Rattle.gn_meaning.specs.Bodies.{Body}
-use Rattle.gn_meaning.specs.Reads.{read_at, Run, Part, a_node, a_group, a_repeat, run_in, part_at, out_of, run_of}
-use Rattle.gn_meaning.specs.Forms.{HasForm}
-use Rattle.gn_meaning.specs.There.{IsThere}
+use Rattle.gn_meaning.specs.Sites.{Way, into, plain_step, turn_step, Site, at_output, at_item, nowhere, Read, plain_read}
+use Rattle.gn_meaning.specs.Reads.{read_at, Run, Part, a_node, a_repeat, run_in, part_at, out_of, run_of}
 use Rattle.gn_meaning.specs.Denotation.{Given, read_value, read_values, choice_by, choice_in, done_for, run_done, run_output, output_value, input_value, first_item, value_within, StandsAt, Ends}
 use Rattle.gn_meaning.specs.Given.{GivesAll}
 use Rattle.gn_meaning.proofs.Options.{Kept, some_same}
 use Rattle.gn_meaning.proofs.Lists.{has_at, get_below}
-use Rattle.gn_meaning.proofs.Values.{read_kept, reads_kept, choice_kept, done_kept, output_kept, value_stays}
-use Rattle.gn_meaning.proofs.Grounded.{Grounded, of_constant, of_tree_input, of_node, of_group, of_repeat, of_group_input, of_turn_number, of_turn_item, of_first_item, of_later_item, all_grounded}
+use Rattle.gn_meaning.proofs.Values.{read_kept, reads_kept, choice_kept, output_kept, value_stays}
+use Rattle.gn_meaning.proofs.Grounded.{Grounded, of_constant, of_tree_input, of_node, of_group, of_repeat, of_group_input, of_turn_number, of_turn_item, of_first_item, of_later_item}
 
 -- ---- what a run gets is among what it reads
 
@@ -108,9 +104,10 @@ module _ {V : Type 0} (rows : Rows Kind V) (given : Given V) (t : Tree) where
       let read : (k : ℕ) × (vs : List V) × (read_values rows given t (Found k) got ≡ Some vs) = together got (λ r there. h r (has_selected (rows.role run.kind) made.1 run.reads r there)) in
       let k : ℕ = made.0 + read.0 in
       let first : choice_in rows given t (Found k) run ≡ Some made.1 = choice_kept rows given t (Found made.0) (Found k) (more made.0 k (omega arith)) run made.1 made.2 in
-      let later : read_values rows given t (Found k) got ≡ Some read.1 = reads_kept rows given t (Found read.0) (Found k) (more read.0 k (omega arith)) got read.1 read.2 in
-      (done_for rows given t run read.1,
-        (k, ap (option_and_then (λ c. option_map (done_for rows given t run) (read_values rows given t (Found k) (selected (rows.role run.kind) c run.reads)))) first ∙ ap (option_map (done_for rows given t run)) later))
+      let later : read_values rows given t (Found k) got ≡ Some read.1 = reads_kept rows given t (Found read.0) (Found k) (more read.0 k (omega arith)) got read.1 read.2 in (
+        done_for rows given t run read.1,
+        (k, ap (option_and_then (λ c. option_map (done_for rows given t run) (read_values rows given t (Found k) (selected (rows.role run.kind) c run.reads)))) first ∙ ap (option_map (done_for rows given t run)) later),
+      )
 
   -- an output that the run gives
   gives : (run : Run) (s : ℕ) (done : Done V) (k : ℕ) → run_done rows given t (Found k) run ≡ Some done → s < length done.outputs → (v : V) × (run_output rows given t (Found k) run s ≡ Some v)

@@ -1,17 +1,16 @@
 -- In a tree that keeps the rules, what is wanted is there, where what is asked for is.
-use Rattle.std.proofs.Common.{◌≡◌, ◌<◌, ◌≤◌, ◌+◌, ◌⊎◌, inl, inr, ℕ, zero, suc, List, [], ◌∷◌, length, map, Option, Some, None, refl, sym, ◌∙◌, ap, subst, arith}
+use Rattle.std.proofs.Common.{◌≡◌, ◌<◌, ◌⊎◌, inl, inr, ℕ, suc, List, [], length, map, Some, sym, ◌∙◌, ap, subst, arith}
 use Rattle.std.specs.Prelude.{IsTrue}
 use Rattle.std.specs.Option.{option_map_or}
 use Rattle.std.proofs.lemmas.List.{length-map}
-use Rattle.gn_lazy.specs.declared.path.PathStep.{PathStep}
 use Rattle.gn_tree.specs.NodeKinds.{Kind}
 use Rattle.gn_tree.specs.Trees.{Node, Tree}
 use Rattle.gn_cycle.specs.Graph.{has_edge}
 use Rattle.gn_rules.specs.Sockets.{one_of, outputs_of, node_at}
 use Rattle.gn_rules.specs.Rules.{KeepsRules, graph_of}
-use Rattle.gn_node_set.specs.Meanings.{Has, first_read, then_read, Rows}
+use Rattle.gn_node_set.specs.Meanings.{Has, Rows}
 use Rattle.gn_meaning.specs.Sites.{Way, the_tree, into, plain_step, turn_step, Site, at_output, at_input, at_item, at_constant, nowhere, Read, plain_read}
-use Rattle.gn_meaning.specs.Bodies.{Body, tree_body, body_at}
+use Rattle.gn_meaning.specs.Bodies.{Body, body_at}
 use Rattle.gn_meaning.specs.Reads.{given_out, read_at, Run, Part, a_node, a_group, a_repeat, run_in, part_at, out_of, run_of}
 use Rattle.gn_meaning.specs.Forms.{HasForm}
 use Rattle.gn_meaning.specs.There.{LeadsTo, to_the_tree, into_group, into_turn, IsThere}
@@ -19,7 +18,7 @@ use Rattle.gn_meaning.specs.Denotation.{Given}
 use Rattle.gn_meaning.specs.Demand.{Wanted, a_root, an_input, a_case, a_group_output, a_group_input, a_result, a_first_item, a_later_item, an_item, output_read}
 use Rattle.gn_meaning.proofs.Options.{some_same, then_some}
 use Rattle.gn_meaning.proofs.Found.{Near, constant as near_constant, entry, output}
-use Rattle.gn_meaning.proofs.Inputs.{AllNear, reads_near, has_read}
+use Rattle.gn_meaning.proofs.Inputs.{reads_near, has_read}
 use Rattle.gn_meaning.proofs.Parts.{singles, Holds}
 use Rattle.gn_meaning.proofs.Opened.{reads_in, Opens, part_near, group_opens, repeat_opens, at_way}
 use Rattle.gn_meaning.proofs.ValuesExist.{has_first_read, has_then_read}

@@ -1,5 +1,5 @@
 -- What holds of the meaning of every tree.
-use Rattle.std.specs.Prelude.{◌≡◌, ℕ, List, [], ◌∷◌, Some}
+use Rattle.std.specs.Prelude.{◌≡◌, ℕ, [], ◌∷◌, Some}
 use Rattle.gn_tree.specs.NodeKinds.{Kind}
 use Rattle.gn_tree.specs.Trees.{Tree, Link}
 use Rattle.gn_rules.specs.declared.shape.Shape.{Shape}

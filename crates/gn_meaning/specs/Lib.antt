@@ -6,5 +6,6 @@ pub mod There
 pub mod Origins
 pub mod Denotation
 pub mod Demand
+pub mod Report
 pub mod Given
 pub mod Claims

@@ -12,3 +12,6 @@
 pub mod laws;
 
 pub use laws::KindRows;
+
+#[cfg(test)]
+mod tests;
