@@ -5,9 +5,9 @@ use Rattle.std.specs.List.{flat_map}
 use Rattle.std.proofs.Math.Seq.{take-append-add}
 use Rattle.std.proofs.lemmas.List.{take-append-le, at_drop_more}
 use Rattle.gn_io.specs.Outside.{Rose, with_bytes}
-use Rattle.gn_app.specs.Ending.{unwritable, bad_line, overlong, said_of}
-use Rattle.gn_app.specs.Outcome.{Says}
-use Rattle.gn_app.specs.Run.{Taken, Tells}
+use Rattle.gn_app.specs.Ending.{unwritable, misformed, bad_line, overlong, said_of}
+use Rattle.gn_app.specs.Outcome.{Taken, Says}
+use Rattle.gn_app.specs.Run.{Tells}
 
 with_bytes_both : (held : Option (List ℕ)) (a b : List ℕ) → with_bytes (with_bytes held a) b ≡ with_bytes held (a ++ b)
 with_bytes_both None a b = refl
@@ -45,6 +45,14 @@ pub tells_length : (name : List ℕ) (n : ℕ) (text : List ℕ) (before now : T
 tells_length name n text before now e h =
     let P : List ℕ → Type 0 = λ l. Says (codes "geonodes: too long: " ++ l) before.held now.held (Rose before.faults now.faults) in
     subst P (ap (λ t. name ++ (codes ": " ++ (t ++ codes "\n"))) e ∙ sym (append_assoc (name ++ codes ": ") (decimal n) (codes "\n") ∙ append_assoc name (codes ": ") (decimal n ++ codes "\n"))) h
+
+-- the line of a rule that a tree breaks, in its pieces
+pub tells_misform : (r : ℕ) (rule place : List ℕ) (before now : Taken) → rule ≡ decimal r → Says (codes "geonodes: tree form: F" ++ (rule ++ (codes " at " ++ (place ++ (codes "\n" ++ []))))) before.held now.held (Rose before.faults now.faults) → Tells (said_of (misformed r place)) before now
+tells_misform r rule place before now e h =
+    let P : List ℕ → Type 0 = λ l. Says (codes "geonodes: tree form: F" ++ l) before.held now.held (Rose before.faults now.faults) in
+    let words : rule ++ (codes " at " ++ (place ++ codes "\n")) ≡ decimal r ++ (codes " at " ++ (place ++ codes "\n")) = ap (λ t. t ++ (codes " at " ++ (place ++ codes "\n"))) e in
+    let joined : (decimal r ++ codes " at " ++ place) ++ codes "\n" ≡ decimal r ++ (codes " at " ++ (place ++ codes "\n")) = append_assoc (decimal r ++ codes " at ") place (codes "\n") ∙ append_assoc (decimal r) (codes " at ") (place ++ codes "\n") in
+    subst P (words ∙ sym joined) h
 
 -- the line of a bad line, in its pieces
 pub tells_bad_line : (n r : ℕ) (line rule : List ℕ) (before now : Taken) → line ≡ decimal n → rule ≡ decimal r → Says (codes "geonodes: obj text: line " ++ (line ++ (codes ": O" ++ (rule ++ (codes "\n" ++ []))))) before.held now.held (Rose before.faults now.faults) → Tells (said_of (bad_line n r)) before now

@@ -1,17 +1,19 @@
 -- The commands, as the words that spell them.
 use Rattle.std.specs.Prelude.{◌≡◌, List, [], ◌∷◌, ◌++◌, Option, Some, None, bytes_eq, codes, if◌then◌else◌}
-use Rattle.gn_tree.specs.Tree.{Text}
+use Rattle.gn_kinds.specs.Row.{Text}
 use Rattle.gn_io.specs.Outside.{Names}
 
--- `eval TREE OBJ`, with the file of a tree and the file of its input, `--help` and `--version`
+-- `eval TREE OBJ`, with the file of a tree and the file of its input, `check TREE`, `--help` and `--version`
 pub data Command : Type 0 where
   eval : Text → Text → Command
+  check : Text → Command
   help : Command
   version : Command
 
 -- the words spell the command
 abbrev pub Spells : List Text → Command → Type 0
 Spells words (eval tree obj) = words ≡ codes "eval" ∷ tree ∷ obj ∷ []
+Spells words (check tree) = words ≡ codes "check" ∷ tree ∷ []
 Spells words help = words ≡ codes "--help" ∷ []
 Spells words version = words ≡ codes "--version" ∷ []
 
@@ -41,4 +43,5 @@ Misfits words None = Begins words
 -- the files of a command in order: the tree and then the input, unless they are one
 abbrev pub files_of : Command → Names
 files_of (eval tree obj) = if bytes_eq tree obj then tree ∷ [] else tree ∷ obj ∷ []
+files_of (check tree) = tree ∷ []
 files_of _ = []

@@ -2,6 +2,7 @@ pub mod Status
 pub mod Ending
 pub mod Command
 pub mod Job
+pub mod Meaning
 pub mod Outcome
 pub mod Run
 pub mod Seen

@@ -1,30 +1,40 @@
--- What is known of a shelf, and what reading the files of a command does.
-use Rattle.std.specs.Prelude.{◌≡◌, ◌⊎◌, ◌<◌, ◌≤◌, ℕ, false, List, [], length, take, map, codes, bytes_eq, Option, Some, IfSome, IsSomeAnd, Result, Ok, Err}
+-- What reading the files of a command does.
+use Rattle.std.specs.Prelude.{◌≡◌, ◌⊎◌, ◌<◌, ◌≤◌, ℕ, true, false, Bool, List, length, map, Option, Some, None, IfSome, IsSomeAnd, Result, Ok, Err, if◌then◌else◌}
+use Rattle.std.specs.Option.{option_map_or}
+use Rattle.serde_json.specs.Data.{Data}
 use Rattle.gn_io.specs.Outside.{Files, Names, Rose, with_name}
+use Rattle.gn_kinds.specs.Row.{Text}
 use Rattle.gn_value.specs.declared.vector.V3.{V3}
-use Rattle.gn_rows.specs.SetPosition.{vector_sum}
+use Rattle.gn_tree.specs.Trees.{Tree}
+use Rattle.gn_plain.specs.Geometry.{of_shape}
 use Rattle.gn_geom.specs.Meshes.{MeshArrays, plain_of}
-use Rattle.gn_io.specs.Files.{file_answer}
-use Rattle.gn_tree.specs.Tree.{Text}
-use Rattle.gn_plain.specs.Geometry as plain
-use Rattle.gn_json.specs.Tree.{Move, moving_tree, tree}
+use Rattle.gn_json.specs.Answers.{json}
+use Rattle.gn_check.specs.Answers.{tree_in}
+use Rattle.gn_rules.specs.Rules.{KeepsRules}
+use Rattle.gn_meaning.specs.Forms.{HasForm}
+use Rattle.gn_rows.specs.Limits.{is_large}
+use Rattle.gn_origin.specs.Plans.{Plan, IsPlan, HasNoPlan}
 use Rattle.gn_elements.specs.Read.{mesh}
 use Rattle.gn_app.specs.declared.ending.Ending.{Ending}
 use Rattle.gn_app.specs.declared.load.LoadedTree.{LoadedTree}
+use Rattle.gn_app.specs.declared.load.PlannedTree.{PlannedTree}
 use Rattle.gn_app.specs.declared.load.Prepared.{Prepared}
+use Rattle.gn_origin.specs.Answers.{plan_of}
 use Rattle.gn_app.specs.Seen.{ending_of}
-use Rattle.gn_app.specs.Command.{Command, files_of}
+use Rattle.gn_app.specs.Command.{Command, eval}
 use Rattle.gn_app.specs.Ending as endings
-use Rattle.gn_app.specs.Ending.{no_file, unreadable, bad_line, overlong, not_built, no_memory}
-use Rattle.gn_app.specs.Job.{Job, evaluation, Refusal, refused, Subject, the_tree, the_input, content, job, tree_of, mesh_of, tree_limit, input_limit}
-use Rattle.gn_app.specs.Outcome.{with_names, files_until, IsLastAsked, IsOverlong}
-use Rattle.gn_app.specs.Run.{Seen, Told}
+use Rattle.gn_app.specs.Ending.{done, misused, no_file, unreadable, unwritable, no_json, misformed, bad_line, overlong, not_built, no_memory}
+use Rattle.gn_app.specs.Job.{evaluation, Giving, IsTree, BreaksRule, Leads, tree_limit, input_limit}
+use Rattle.gn_app.specs.Outcome.{Seen, AsksFor, Misses, HasCause, IsLastAsked}
+use Rattle.gn_app.specs.Run.{Told}
 
 -- the counts don't fall, and what is held stays
 pub record Goes (before now : Seen) : Type 0 where
   pub holds : now.holds ≡ before.holds
   pub faults : before.faults ≤ now.faults
   pub misses : before.misses ≤ now.misses
+
+-- ---- one file
 
 -- the file was asked for, and wasn't missed
 pub record Asked (name : Text) (before now : Seen) : Type 0 where
@@ -47,9 +57,10 @@ pub record IsLong (holds : Option Files) (name : Text) (limit size : ℕ) : Type
   pub over : limit < size
   pub held : IfSome holds (λ files. IsSomeAnd (files name) (λ file. length file ≡ size))
 
--- the bytes are those of the file, where files are told
-abbrev pub Holds : Option Files → Text → List ℕ → Type 0
-Holds holds name bytes = IfSome holds (λ files. files name ≡ Some bytes)
+-- the bytes are those of the file, where files are told, and within the limit
+pub record IsWhole (holds : Option Files) (name : Text) (limit : ℕ) (bytes : List ℕ) : Type 0 where
+  pub fits : length bytes ≤ limit
+  pub held : IfSome holds (λ files. files name ≡ Some bytes)
 
 -- why a file is not read
 abbrev pub LoadFails : Text → ℕ → Seen → Seen → endings.Ending → Type 0
@@ -61,120 +72,104 @@ LoadFails name limit before now _ = ⊥
 
 -- a file is read, or why not
 abbrev pub Loads : {A : Type 0} → (A → List ℕ) → Text → ℕ → Seen → Seen → Result A Ending → Type 0
-Loads bytes name limit before now (Ok v) = Asked name before now × (length (bytes v) ≤ limit) × Holds before.holds name (bytes v)
+Loads bytes name limit before now (Ok v) = Asked name before now × IsWhole before.holds name limit (bytes v)
 Loads bytes name limit before now (Err e) = LoadFails name limit before now (ending_of e)
 
--- what the file of that name gives, where files are told and these names were missed
-abbrev pub Gives : {A : Type 0} → Option Files → Subject → (List ℕ → Result A endings.Ending) → Names → ℕ → Text → Result A Refusal → Type 0
-Gives holds subject reading missed limit name r =
-    IfSome holds (λ files. content subject name reading (file_answer files missed limit name) ≡ r)
+-- ---- the tree
+
+-- the file was asked for, and has these bytes
+pub record Had (name : Text) (limit : ℕ) (before now : Seen) (bytes : List ℕ) : Type 0 where
+  pub asked : Asked name before now
+  pub whole : IsWhole before.holds name limit bytes
 
 -- why a file gives no tree
 abbrev pub TreeFails : Text → Seen → Seen → endings.Ending → Type 0
-TreeFails name before now not_built =
-    Asked name before now × Gives before.holds the_tree tree_of [] tree_limit name (refused not_built the_tree)
+TreeFails name before now no_json = (bytes : List ℕ) × Had name tree_limit before now bytes × (json bytes ≡ None)
+TreeFails name before now (misformed rule place) = (bytes : List ℕ) × Had name tree_limit before now bytes × BreaksRule bytes rule place
 TreeFails name before now ending = LoadFails name tree_limit before now ending
+
+abbrev pub ReadsTree : Text → Seen → Seen → Result LoadedTree Ending → Type 0
+ReadsTree name before now (Ok loaded) = Had name tree_limit before now loaded.bytes.items × IsTree loaded.bytes.items (tree_in loaded.tree)
+ReadsTree name before now (Err e) = TreeFails name before now (ending_of e)
+
+-- a tree that is built, and the bytes of its text
+pub record IsPlanned (name : Text) (before now : Seen) (planned : PlannedTree) : Type 0 where
+  pub had : Had name tree_limit before now planned.bytes.items
+  pub tree : Tree
+  pub is : IsTree planned.bytes.items tree
+  pub plan : IsPlan tree (plan_of planned.plan)
+
+-- why a file gives no tree that is built
+abbrev pub PlanFails : Text → Seen → Seen → endings.Ending → Type 0
+PlanFails name before now not_built = (bytes : List ℕ) × Had name tree_limit before now bytes × ((t : Tree) × IsTree bytes t × HasNoPlan t)
+PlanFails name before now ending = TreeFails name before now ending
+
+abbrev pub ReadsPlan : Text → Seen → Seen → Result PlannedTree Ending → Type 0
+ReadsPlan name before now (Ok planned) = IsPlanned name before now planned
+ReadsPlan name before now (Err e) = PlanFails name before now (ending_of e)
+
+-- ---- the input
 
 -- why a file gives no mesh
 abbrev pub InputFails : Text → Seen → Seen → endings.Ending → Type 0
-InputFails name before now (bad_line line rule) =
-    Asked name before now × Gives before.holds the_input mesh_of [] input_limit name (refused (bad_line line rule) the_input)
+InputFails name before now (bad_line line rule) = (bytes : List ℕ) × Had name input_limit before now bytes × (mesh bytes ≡ Err (record { line = line; rule = rule }))
 InputFails name before now ending = LoadFails name input_limit before now ending
 
--- a tree of the first form, and its bytes
-pub record TreeRead (name : Text) (before now : Seen) (loaded : LoadedTree) : Type 0 where
-  pub asked : Asked name before now
-  pub fits : length loaded.bytes.items ≤ tree_limit
-  pub held : Holds before.holds name loaded.bytes.items
-  pub move : Move
-  pub free : bytes_eq move.id (codes "input") ≡ false
-  pub offset : loaded.offset ≡ move.offset
-  pub reads : tree loaded.bytes.items ≡ Some (moving_tree move)
-
-abbrev pub ReadsTree : Text → Seen → Seen → Result LoadedTree Ending → Type 0
-ReadsTree name before now (Ok loaded) = TreeRead name before now loaded
-ReadsTree name before now (Err e) = TreeFails name before now (ending_of e)
-
 abbrev pub ReadsInput : Text → Seen → Seen → Result MeshArrays Ending → Type 0
-ReadsInput name before now (Ok m) = Asked name before now × Gives before.holds the_input mesh_of [] input_limit name (Ok (plain_of m))
+ReadsInput name before now (Ok m) = (bytes : List ℕ) × Had name input_limit before now bytes × (mesh bytes ≡ Ok (plain_of m))
 ReadsInput name before now (Err e) = InputFails name before now (ending_of e)
 
--- why the tree's own bytes are no input
-abbrev pub OwnFails : LoadedTree → endings.Ending → Type 0
-OwnFails loaded (bad_line line rule) = mesh loaded.bytes.items ≡ Err (record { line = line; rule = rule })
-OwnFails loaded no_memory = Unit {0}
-OwnFails loaded _ = ⊥
+-- the mesh that bytes at hand spell, or why there is none
+abbrev pub OwnFails : List ℕ → endings.Ending → Type 0
+OwnFails bytes (bad_line line rule) = mesh bytes ≡ Err (record { line = line; rule = rule })
+OwnFails bytes no_memory = Unit {0}
+OwnFails bytes _ = ⊥
 
--- the mesh that the tree's own bytes spell
-abbrev pub OwnInput : LoadedTree → Result Prepared Ending → Type 0
-OwnInput loaded (Ok p) = (p.offset ≡ loaded.offset) × (mesh loaded.bytes.items ≡ Ok (plain_of p.mesh))
-OwnInput loaded (Err e) = OwnFails loaded (ending_of e)
+abbrev pub OwnInput : List ℕ → Result MeshArrays Ending → Type 0
+OwnInput bytes (Ok m) = mesh bytes ≡ Ok (plain_of m)
+OwnInput bytes (Err e) = OwnFails bytes (ending_of e)
 
--- a node that moves, with the mesh that it is given
-abbrev pub job_of : Move → plain.Mesh → Job
-job_of m input = evaluation (moving_tree m) (record { mesh = input })
+abbrev pub OwnPrepared : PlannedTree → Result Prepared Ending → Type 0
+OwnPrepared planned (Ok p) = (p.plan ≡ planned.plan) × (mesh planned.bytes.items ≡ Ok (plain_of p.mesh))
+OwnPrepared planned (Err e) = OwnFails planned.bytes.items (ending_of e)
+
+-- ---- all files of a command
+
+-- the files lead to that end, unless one can't be read or there is no memory
+abbrev pub LeadsAway : Giving → Command → endings.Ending → Type 0
+LeadsAway files c done = ⊥
+LeadsAway files c (unwritable taken) = ⊥
+LeadsAway files c (misused word) = ⊥
+LeadsAway files c (unreadable name) = Unit {0}
+LeadsAway files c no_memory = Unit {0}
+LeadsAway files c ending = Leads files c (Err ending)
+
+-- an end that comes before the output
+abbrev pub ComesEarly : endings.Ending → Type 0
+ComesEarly done = ⊥
+ComesEarly (unwritable taken) = ⊥
+ComesEarly (misused word) = ⊥
+ComesEarly ending = Unit {0}
+
+-- why there is nothing to write
+pub record Unprepared (c : Command) (before now : Seen) (ending : endings.Ending) : Type 0 where
+  pub early : ComesEarly ending
+  pub asked : AsksFor c ending before.asked now.asked
+  pub missed : Misses ending before.missed now.missed
+  pub cause : HasCause c before now ending
+  pub told : Told c before now (λ files. LeadsAway files c ending)
 
 -- there is something to evaluate
 pub record IsPrepared (c : Command) (before now : Seen) (p : Prepared) : Type 0 where
-  pub asked : now.asked ≡ with_names before.asked (files_of c)
+  pub asked : AsksFor c done before.asked now.asked
   pub missed : now.missed ≡ before.missed
-  pub move : Move
-  pub free : bytes_eq move.id (codes "input") ≡ false
-  pub offset : p.offset ≡ move.offset
-  pub job_is : Told c before now (λ files. job files c ≡ Ok (job_of move (plain_of p.mesh)))
-
--- the files lead to that end, by the last file that was asked for
-pub record IsRefused (ending : endings.Ending) (c : Command) (before now : Seen) : Type 0 where
-  pub subject : Subject
-  pub asked : now.asked ≡ with_names before.asked (files_until subject c)
-  pub job_is : Told c before now (λ files. job files c ≡ refused ending subject)
-
--- a file of the command is no file
-pub record IsMissing (name : Text) (c : Command) (before now : Seen) : Type 0 where
-  pub refused : IsRefused (no_file name) c before now
-  pub named : IsLastAsked c name before.asked now.asked
-  pub missed : now.missed ≡ with_name before.missed name
-  pub rose : Rose before.misses now.misses
-
--- a file of the command is over its limit
-pub record IsTooLong (name : Text) (size : ℕ) (c : Command) (before now : Seen) : Type 0 where
-  pub refused : IsRefused (overlong name size) c before now
-  pub named : IsLastAsked c name before.asked now.asked
-  pub missed : now.missed ≡ before.missed
-  pub long : IsOverlong c name size before.holds
-
--- a file of the command can't be read as what it should be
-pub record IsMisread (ending : endings.Ending) (subject : Subject) (c : Command) (before now : Seen) : Type 0 where
-  pub asked : now.asked ≡ with_names before.asked (files_until subject c)
-  pub missed : now.missed ≡ before.missed
-  pub job_is : Told c before now (λ files. job files c ≡ refused ending subject)
-
--- a file of the command could not be read
-pub record IsFaulty (name : Text) (c : Command) (before now : Seen) : Type 0 where
-  pub named : IsLastAsked c name before.asked now.asked
-  pub missed : now.missed ≡ before.missed
-  pub rose : Rose before.faults now.faults
-
--- there was no memory for a file of the command
-pub record IsCutShort (c : Command) (before now : Seen) : Type 0 where
-  pub count : ℕ
-  pub asked : now.asked ≡ with_names before.asked (take count (files_of c))
-  pub missed : now.missed ≡ before.missed
-
--- why there is nothing to evaluate
-abbrev pub Unprepared : Command → Seen → Seen → endings.Ending → Type 0
-Unprepared c before now (no_file name) = IsMissing name c before now
-Unprepared c before now (overlong name size) = IsTooLong name size c before now
-Unprepared c before now not_built = IsMisread not_built the_tree c before now
-Unprepared c before now (bad_line line rule) = IsMisread (bad_line line rule) the_input c before now
-Unprepared c before now (unreadable name) = IsFaulty name c before now
-Unprepared c before now no_memory = IsCutShort c before now
-Unprepared c before now _ = ⊥
+  pub tree : Tree
+  pub keeps : KeepsRules tree
+  pub form : HasForm tree
+  pub small : is_large (of_shape (plain_of p.mesh)) ≡ false
+  pub plan : IsPlan tree (plan_of p.plan)
+  pub told : Told c before now (λ files. Leads files c (Ok (evaluation tree (plain_of p.mesh))))
 
 abbrev pub Prepares : Command → Seen → Seen → Result Prepared Ending → Type 0
 Prepares c before now (Ok p) = IsPrepared c before now p
 Prepares c before now (Err e) = Unprepared c before now (ending_of e)
-
--- the mesh with its points moved
-abbrev pub moved_mesh : plain.Mesh → V3 → plain.Mesh
-moved_mesh m offset = record m { points = map (λ p. vector_sum p offset) m.points }

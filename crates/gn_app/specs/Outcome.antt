@@ -1,33 +1,43 @@
 -- What a run leaves, by its end.
-use Rattle.std.specs.Prelude.{◌≡◌, ◌⊎◌, ℕ, ◌+◌, ◌<◌, ◌≤◌, List, [], ◌∷◌, ◌++◌, length, take, Option, Some, None, IfSome, IsSomeAnd, Result, Ok, Err, IfOk, IfErr}
-use Rattle.gn_io.specs.Outside.{Files, Names, stopped, with_name, with_bytes}
-use Rattle.gn_io.specs.Files.{file_answer, gained}
-use Rattle.gn_tree.specs.Tree.{Text}
-use Rattle.gn_app.specs.Command.{Command, eval, files_of}
-use Rattle.gn_app.specs.Ending.{Ending, done, misused, no_file, unreadable, unwritable, bad_line, overlong, not_built, no_memory}
-use Rattle.gn_app.specs.Job.{Job, Refusal, Subject, the_tree, the_input, tree_limit, input_limit, Giving, ComesTo, CountsDemand}
+use Rattle.std.specs.Prelude.{◌≡◌, ◌⊎◌, ℕ, ◌+◌, ◌<◌, ◌≤◌, List, [], ◌∷◌, ◌++◌, length, take, Option, Some, None, IfSome, IsSomeAnd, Result, Ok, Err}
+use Rattle.gn_io.specs.Outside.{Files, Names, Rose, stopped, with_name, with_bytes}
+use Rattle.gn_kinds.specs.Row.{Text}
+use Rattle.gn_app.specs.Command.{Command, eval, check, files_of}
+use Rattle.gn_app.specs.Ending.{Ending, done, misused, no_file, unreadable, unwritable, no_json, misformed, bad_line, overlong, not_built, no_memory}
+use Rattle.gn_app.specs.Job.{Job, tree_limit, input_limit, Giving, Leads}
+use Rattle.gn_app.specs.Meaning.{ComesTo, TakesRuns}
 
--- a fact of what names give, where the shelf tells what it holds and what it missed in this call
-abbrev pub WhereTold : Option Files → Option Names → Option Names → (Giving → Type 0) → Type 0
-WhereTold (Some files) (Some before) (Some after) fact = fact (file_answer files (gained before after))
-WhereTold _ _ _ fact = Unit {0}
+-- what a shelf tells, and its counts
+pub record Seen : Type 0 where
+  pub holds : Option Files
+  pub asked : Option Names
+  pub missed : Option Names
+  pub faults : ℕ
+  pub misses : ℕ
 
--- the end that the files lead to
-abbrev pub ending_for : Result Job Refusal → Ending
-ending_for (Ok j) = done
-ending_for (Err refusal) = refusal.ending
+-- the bytes that a sink has taken, where it tells, and the count of its faults
+pub record Taken : Type 0 where
+  pub held : Option (List ℕ)
+  pub faults : ℕ
 
--- a run ends as the files say, unless memory is refused, a file can't be read, or the output can't be written
-abbrev pub EndsAs : Ending → Type 0 → Type 0 → Ending → Type 0
-EndsAs wanted reading writing no_memory = Unit {0}
-EndsAs wanted reading writing (unreadable name) = reading
-EndsAs wanted reading writing (unwritable taken) = writing × (wanted ≡ done)
-EndsAs wanted reading writing ending = ending ≡ wanted
+-- what is known of the shelf, the output and the meter that a run is given
+pub record Outside : Type 0 where
+  pub shelf : Seen
+  pub output : Taken
+  pub runs : ℕ
+  pub copies : ℕ
+
+-- ---- the files asked for
 
 -- the names where they are told, with more at the end
 abbrev pub with_names : Option Names → Names → Option Names
 with_names None names = None
 with_names (Some before) names = Some (before ++ names)
+
+-- a file that an end speaks of
+pub data Subject : Type 0 where
+  the_tree : Subject
+  the_input : Subject
 
 -- the files asked for up to the one that is spoken of
 abbrev pub files_until : Subject → Command → Names
@@ -37,6 +47,7 @@ files_until _ c = files_of c
 abbrev pub name_of : Subject → Command → Option Text
 name_of the_tree (eval tree obj) = Some tree
 name_of the_input (eval tree obj) = Some obj
+name_of the_tree (check tree) = Some tree
 name_of _ _ = None
 
 -- a file of the command is spoken of by its name, and is the last that was asked for
@@ -49,18 +60,22 @@ pub record IsLastAsked (c : Command) (name : Text) (before now : Option Names) :
 abbrev pub AsksFor : Command → Ending → Option Names → Option Names → Type 0
 AsksFor c done before now = now ≡ with_names before (files_of c)
 AsksFor c (unwritable taken) before now = now ≡ with_names before (files_of c)
-AsksFor c no_memory before now = (k : ℕ) × (now ≡ with_names before (take k (files_of c)))
-AsksFor c not_built before now = now ≡ with_names before (files_until the_tree c)
 AsksFor c (bad_line line rule) before now = now ≡ with_names before (files_of c)
+AsksFor c no_json before now = now ≡ with_names before (files_until the_tree c)
+AsksFor c (misformed rule place) before now = now ≡ with_names before (files_until the_tree c)
+AsksFor c not_built before now = now ≡ with_names before (files_until the_tree c)
 AsksFor c (no_file name) before now = IsLastAsked c name before now
 AsksFor c (unreadable name) before now = IsLastAsked c name before now
 AsksFor c (overlong name size) before now = IsLastAsked c name before now
+AsksFor c no_memory before now = (k : ℕ) × (now ≡ with_names before (take k (files_of c)))
 AsksFor c (misused word) before now = ⊥
 
 -- the names missed: the one that no file has, and no other
 abbrev pub Misses : Ending → Option Names → Option Names → Type 0
 Misses (no_file name) before now = now ≡ with_name before name
 Misses ending before now = now ≡ before
+
+-- ---- causes
 
 -- the limit of a file, in bytes
 abbrev pub limit_of : Subject → ℕ
@@ -74,47 +89,39 @@ pub record IsOverlong (c : Command) (name : Text) (size : ℕ) (holds : Option F
   pub over : limit_of subject < size
   pub held : IfSome holds (λ files. IsSomeAnd (files name) (λ file. length file ≡ size))
 
--- a part of the text that the job comes to, of so many bytes
-pub record WritesPart (taken : ℕ) (before now : Option (List ℕ)) (j : Job) : Type 0 where
-  pub text : Text
-  pub comes : ComesTo j text
-  pub count : ℕ
-  pub output : now ≡ with_bytes before (take count text)
-  pub length_is : taken ≡ stopped (length (take count text))
+-- an end has its cause in the files, also where the shelf tells nothing
+abbrev pub HasCause : Command → Seen → Seen → Ending → Type 0
+HasCause c before now (no_file name) = Rose before.misses now.misses
+HasCause c before now (unreadable name) = Rose before.faults now.faults
+HasCause c before now (overlong name size) = IsOverlong c name size before.holds
+HasCause c before now ending = Unit {0}
 
--- the text that the job comes to
-pub record WritesAll (before now : Option (List ℕ)) (j : Job) : Type 0 where
-  pub text : Text
-  pub comes : ComesTo j text
-  pub output : now ≡ with_bytes before text
+-- a run ends as the files lead it, unless memory is refused, a file can't be read, or the output can't be written
+abbrev pub EndsAs : Ending → Type 0 → Type 0 → Ending → Type 0
+EndsAs wanted reading writing no_memory = Unit {0}
+EndsAs wanted reading writing (unreadable name) = reading
+EndsAs wanted reading writing (unwritable taken) = writing × (wanted ≡ done)
+EndsAs wanted reading writing ending = ending ≡ wanted
 
--- the bytes written, where the files lead to a job
-abbrev pub Writes : Result Job Refusal → Ending → Option (List ℕ) → Option (List ℕ) → Type 0
-Writes r done before now = IfOk r (WritesAll before now)
-Writes r (unwritable taken) before now = IfOk r (WritesPart taken before now)
-Writes r ending before now = Unit {0}
+-- ---- the output and the node runs
 
--- some bytes, of that number
-pub record Grows (taken : ℕ) (before now : Option (List ℕ)) : Type 0 where
+-- a front part of the text was written, of so many bytes
+abbrev pub WritesPart : ℕ → Option (List ℕ) → Option (List ℕ) → Text → Type 0
+WritesPart taken before now text =
+    (count : ℕ) × (count ≤ length text) × (now ≡ with_bytes before (take count text)) × (taken ≡ stopped count)
+
+-- some bytes were written, of that number, and the output failed
+pub record Grows (taken : ℕ) (before now : Taken) : Type 0 where
   pub piece : List ℕ
-  pub output : now ≡ with_bytes before piece
+  pub output : now.held ≡ with_bytes before.held piece
   pub length_is : taken ≡ stopped (length piece)
+  pub rose : Rose before.faults now.faults
 
 -- nothing is written before the run comes to its output, and then bytes are added alone
-abbrev pub WritesLate : Ending → Option (List ℕ) → Option (List ℕ) → Type 0
-WritesLate done before now = (piece : List ℕ) × (now ≡ with_bytes before piece)
+abbrev pub WritesLate : Ending → Taken → Taken → Type 0
+WritesLate done before now = (piece : List ℕ) × (now.held ≡ with_bytes before.held piece)
 WritesLate (unwritable taken) before now = Grows taken before now
 WritesLate ending before now = now ≡ before
-
--- as many runs as nodes are demanded
-abbrev pub RunsAll : ℕ → ℕ → Job → Type 0
-RunsAll before now j = (n : ℕ) × CountsDemand j n × (now ≡ before + n)
-
--- the runs noted, where the files lead to a job
-abbrev pub Runs : Result Job Refusal → Ending → ℕ → ℕ → Type 0
-Runs r done before now = IfOk r (RunsAll before now)
-Runs r (unwritable taken) before now = IfOk r (RunsAll before now)
-Runs r ending before now = Unit {0}
 
 -- no node runs but where the run came to its output
 abbrev pub RunsLate : Ending → ℕ → ℕ → Type 0
@@ -122,13 +129,27 @@ RunsLate done before now = before ≤ now
 RunsLate (unwritable taken) before now = before ≤ now
 RunsLate ending before now = now ≡ before
 
--- a refusal speaks of the first file that is refused, and asks for none behind it
-abbrev pub AsksUntil : Result Job Refusal → Command → Ending → Option Names → Option Names → Type 0
-AsksUntil r c (no_file name) before now = IfErr r (λ refusal. now ≡ with_names before (files_until refusal.subject c))
-AsksUntil r c (overlong name size) before now = IfErr r (λ refusal. now ≡ with_names before (files_until refusal.subject c))
-AsksUntil r c (bad_line line rule) before now = IfErr r (λ refusal. now ≡ with_names before (files_until refusal.subject c))
-AsksUntil r c not_built before now = IfErr r (λ refusal. now ≡ with_names before (files_until refusal.subject c))
-AsksUntil r c ending before now = Unit {0}
+module _ (files : Giving) (c : Command) (before now : Outside) where
+  -- the files lead to the job, its text is written so, and as many node runs are noted as it takes
+  pub record Does (Writes : Text → Type 0) : Type 0 where
+    pub job : Job
+    pub leads : Leads files c (Ok job)
+    pub text : Text
+    pub comes : ComesTo files job text
+    pub writes : Writes text
+    pub demanded : ℕ
+    pub takes : TakesRuns files job demanded
+    pub runs : now.runs ≡ before.runs + demanded
+
+  -- where a run ends, as the files say
+  abbrev pub Ends : Ending → Type 0
+  Ends done = Does (λ text. now.output.held ≡ with_bytes before.output.held text)
+  Ends (unwritable taken) = Does (WritesPart taken before.output.held now.output.held)
+  Ends (unreadable name) = Unit {0}
+  Ends no_memory = Unit {0}
+  Ends ending = Leads files c (Err ending)
+
+-- ---- messages
 
 -- a line is written whole, or a part of it where the sink of messages failed
 abbrev pub Says : Text → Option (List ℕ) → Option (List ℕ) → Type 0 → Type 0

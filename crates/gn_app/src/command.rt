@@ -1,16 +1,16 @@
 ghost use Rattle.std.specs.Prelude.{◌≡◌, ◌≤◌, ◌^◌, ◌*◌, map, string_bytes};
 ghost use Rattle.gn_io.specs.Outside.{Rose};
-ghost use Rattle.gn_app.specs.Command.{eval};
-ghost use Rattle.gn_app.specs.Job.{help_text, version_text};
 ghost use Rattle.gn_io.specs.Sink.{OnFailedPut};
 ghost use Rattle.gn_obj.specs.Pages.{TakesText};
-ghost use Rattle.gn_app.specs.Run.{IsRunOf, IsRunOfWords, IsCall, outside, seen_by, taken_by};
+ghost use Rattle.gn_app.specs.Command.{eval};
+ghost use Rattle.gn_app.specs.Job.{ok_text, help_text, version_text};
+ghost use Rattle.gn_app.specs.Run.{Between, IsRunOf, IsRunOfWords, IsCall, outside_of, shelf_by, sink_by};
 ghost use Rattle.gn_app.specs.Seen.{command_of, ending_of};
 
 use crate::ending::Ending;
-use crate::files::prepare;
+use crate::files::{load_tree, prepare};
 use crate::message::tell;
-use crate::moving::moved;
+use crate::moving::{made, runs_a_node};
 use crate::request::{Request, read_request};
 use crate::status::Status;
 use gn_io::{Gate, Put, Shelf, Sink};
@@ -20,9 +20,12 @@ use std::alloc::Global;
 use std::sync::Wait;
 use std::thread::Threads;
 
+/// What `check` writes for a well-formed tree.
+const OK: &str = "ok\n";
+
 /// What `--help` writes: the commands.
 const HELP: &str =
-    "usage: geonodes eval TREE OBJ\n       geonodes --help\n       geonodes --version\n";
+    "usage: geonodes eval TREE OBJ\n       geonodes check TREE\n       geonodes --help\n       geonodes --version\n";
 
 /// What `--version` writes.
 const VERSION: &str = "geonodes 0.1.0\n";
@@ -37,19 +40,21 @@ fn run_eval<'a, H: Shelf, K: Sink, L>(
     meter: &mut Meter<L>,
 ) -> Ending<'a>
     requires { meter.old.runs ≤ 2 ^ 62 }
-    ensures { IsRunOf (eval tree.now input.now)
-        (outside (seen_by H.holds H.asked H.missed H.faults H.misses shelf.old) (taken_by K.held K.faults out.old) meter.old)
-        (outside (seen_by H.holds H.asked H.missed H.faults H.misses shelf.new) (taken_by K.held K.faults out.new) meter.new)
-        (ending_of result) }
+    ensures { Between (outside_of (shelf_by H.holds H.asked H.missed H.faults H.misses) (sink_by K.held K.faults))
+        (shelf.old, out.old, meter.old) (shelf.new, out.new, meter.new)
+        (IsRunOf (eval tree.now input.now) (ending_of result)) }
 {
     let prepared = match prepare(alloc, tree, input, shelf) {
         Ok(prepared) => prepared,
         Err(ending) => return ending,
     };
-    let Ok(geometry) = moved(alloc, prepared) else {
+    let runs = runs_a_node(&prepared.plan);
+    let Ok(geometry) = made(alloc, prepared) else {
         return Ending::NoMemory;
     };
-    meter.note_run();
+    if runs {
+        meter.note_run();
+    }
     Ending::of_put(write_obj(&geometry, out))
 }
 
@@ -70,13 +75,16 @@ fn run_request<'a, H: Shelf, K: Sink, L>(
     meter: &mut Meter<L>,
 ) -> Ending<'a>
     requires { meter.old.runs ≤ 2 ^ 62 }
-    ensures { IsRunOf (command_of request.entry)
-        (outside (seen_by H.holds H.asked H.missed H.faults H.misses shelf.old) (taken_by K.held K.faults out.old) meter.old)
-        (outside (seen_by H.holds H.asked H.missed H.faults H.misses shelf.new) (taken_by K.held K.faults out.new) meter.new)
-        (ending_of result) }
+    ensures { Between (outside_of (shelf_by H.holds H.asked H.missed H.faults H.misses) (sink_by K.held K.faults))
+        (shelf.old, out.old, meter.old) (shelf.new, out.new, meter.new)
+        (IsRunOf (command_of request.entry) (ending_of result)) }
 {
     match request {
         Request::Eval { tree, input } => run_eval(alloc, tree, input, shelf, out, meter),
+        Request::Check { tree } => match load_tree(alloc, shelf, tree) {
+            Ok(_) => Ending::of_put(write_text(out, OK)),
+            Err(ending) => ending,
+        },
         Request::Help => Ending::of_put(write_text(out, HELP)),
         Request::Version => Ending::of_put(write_text(out, VERSION)),
     }
@@ -91,10 +99,9 @@ fn run_words<'a, H: Shelf, K: Sink, L>(
     meter: &mut Meter<L>,
 ) -> Ending<'a>
     requires { meter.old.runs ≤ 2 ^ 62 }
-    ensures { IsRunOfWords (map string_bytes words.now)
-        (outside (seen_by H.holds H.asked H.missed H.faults H.misses shelf.old) (taken_by K.held K.faults out.old) meter.old)
-        (outside (seen_by H.holds H.asked H.missed H.faults H.misses shelf.new) (taken_by K.held K.faults out.new) meter.new)
-        (ending_of result) }
+    ensures { Between (outside_of (shelf_by H.holds H.asked H.missed H.faults H.misses) (sink_by K.held K.faults))
+        (shelf.old, out.old, meter.old) (shelf.new, out.new, meter.new)
+        (IsRunOfWords (map string_bytes words.now) (ending_of result)) }
 {
     match read_request(words) {
         Ok(request) => run_request(alloc, request, shelf, out, meter),
@@ -102,9 +109,11 @@ fn run_words<'a, H: Shelf, K: Sink, L>(
     }
 }
 
-/// Runs a command on this thread alone. A run with no fault writes the text of what the tree
-/// gives out for its input to `out`, asks `shelf` for each file once, and notes each node run.
-/// Unless it is `Done`, its end is told on `err` by one line.
+/// Runs a command on this thread alone.
+///
+/// `eval TREE OBJ` writes the text of what the tree gives out for its input to `out`, asks `shelf`
+/// for each file once, and notes each node run. `check TREE` asks for the tree alone and writes `ok`
+/// and a line feed where it is well formed. Unless the end is `Done`, it is told on `err` by one line.
 ///
 /// The words are those after the program's own name. No count of workers is taken, and the call
 /// waits for nobody.
@@ -124,10 +133,9 @@ where
     E: Sink,
     L: Send + Sync,
     requires { meter.old.runs ≤ 2 ^ 62 }
-    ensures { IsCall (map string_bytes words.now)
-        (outside (seen_by H.holds H.asked H.missed H.faults H.misses shelf.old) (taken_by K.held K.faults out.old) meter.old)
-        (outside (seen_by H.holds H.asked H.missed H.faults H.misses shelf.new) (taken_by K.held K.faults out.new) meter.new)
-        (taken_by E.held E.faults err.old) (taken_by E.held E.faults err.new) result }
+    ensures { Between (outside_of (shelf_by H.holds H.asked H.missed H.faults H.misses) (sink_by K.held K.faults))
+        (shelf.old, out.old, meter.old) (shelf.new, out.new, meter.new)
+        (IsCall (map string_bytes words.now) result (sink_by E.held E.faults err.old) (sink_by E.held E.faults err.new)) }
 {
     let _ = rt;
     let ending = run_words(alloc, words, shelf, out, meter);
@@ -156,10 +164,9 @@ where
     G: Gate + Sync,
     L: Send + Sync,
     requires { meter.old.runs ≤ 2 ^ 62 }
-    ensures { IsCall (map string_bytes words.now)
-        (outside (seen_by H.holds H.asked H.missed H.faults H.misses shelf.old) (taken_by K.held K.faults out.old) meter.old)
-        (outside (seen_by H.holds H.asked H.missed H.faults H.misses shelf.new) (taken_by K.held K.faults out.new) meter.new)
-        (taken_by E.held E.faults err.old) (taken_by E.held E.faults err.new) result }
+    ensures { Between (outside_of (shelf_by H.holds H.asked H.missed H.faults H.misses) (sink_by K.held K.faults))
+        (shelf.old, out.old, meter.old) (shelf.new, out.new, meter.new)
+        (IsCall (map string_bytes words.now) result (sink_by E.held E.faults err.old) (sink_by E.held E.faults err.new)) }
 {
     let _ = gate;
     run_alone(rt, alloc, words, shelf, out, err, meter)

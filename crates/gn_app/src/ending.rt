@@ -6,7 +6,7 @@ use crate::status::Status;
 use gn_io::Put;
 
 /// How a run ended, with what its message says.
-#[derive(Clone, Copy)]
+#[derive(Drop)]
 pub(crate) enum Ending<'a> {
     Done,
     /// The first word that fits no command, or none where more words are expected.
@@ -15,6 +15,11 @@ pub(crate) enum Ending<'a> {
     Unreadable { name: &'a str },
     /// How many bytes the output took, or 2^64 - 1 where these are more.
     Unwritable { taken: u64 },
+    /// The bytes of the tree are no JSON text.
+    NoJson,
+    /// The least rule of F1 to F7 that the tree breaks, and the first place where it does, as a JSON
+    /// Pointer.
+    Misformed { place: String, rule: u8 },
     /// The first line of the input that breaks a rule, and the least rule that it breaks.
     BadLine { line: u64, rule: u8 },
     Overlong { name: &'a str, length: u64 },
@@ -43,6 +48,8 @@ impl<'a> Ending<'a> {
             Ending::NoFile { .. } => Status::Absent,
             Ending::Unreadable { .. } => Status::ReadFault,
             Ending::Unwritable { .. } => Status::WriteFault,
+            Ending::NoJson => Status::TreeText,
+            Ending::Misformed { .. } => Status::TreeForm,
             Ending::BadLine { .. } => Status::ObjText,
             Ending::Overlong { .. } => Status::TooLong,
             Ending::NotBuilt => Status::NotBuilt,

@@ -1,16 +1,16 @@
 ghost use Rattle.std.specs.Prelude.{◌≡◌, ◌≤◌, length};
 ghost use Rattle.gn_app.specs.Command.{eval};
-ghost use Rattle.gn_app.specs.Job.{tree_limit};
-ghost use Rattle.gn_app.specs.Load.{Goes, Loads, ReadsTree, ReadsInput, Prepares, OwnInput};
-ghost use Rattle.gn_app.specs.Run.{seen_by};
+ghost use Rattle.gn_app.specs.Load.{Goes, Loads, ReadsTree, ReadsPlan, ReadsInput, Prepares, OwnInput, OwnPrepared};
+ghost use Rattle.gn_app.specs.Run.{Between, shelf_by};
 
 use crate::ending::Ending;
-use crate::load::{LoadedTree, Prepared};
-use crate::tree::read_tree;
+use crate::load::{LoadedTree, PlannedTree, Prepared};
 use gn_geom::Mesh;
 use gn_io::{Fetched, Shelf};
 use gn_memory::Memory;
 use gn_obj::{ObjFault, read_obj};
+use gn_origin::find_plan;
+use gn_read::{TreeFault, read_tree};
 use std::alloc::Global;
 
 const TREE_LIMIT: u64 = 4_194_304;
@@ -24,13 +24,9 @@ fn load<'a, H: Shelf>(
     name: &'a str,
     limit: u64,
 ) -> Result<Vec<u8>, Ending<'a>>
-    ensures loads { Loads (λ v. v.items) name.now limit
-        (seen_by H.holds H.asked H.missed H.faults H.misses shelf.old)
-        (seen_by H.holds H.asked H.missed H.faults H.misses shelf.new)
-        result }
-    ensures goes { Goes
-        (seen_by H.holds H.asked H.missed H.faults H.misses shelf.old)
-        (seen_by H.holds H.asked H.missed H.faults H.misses shelf.new) }
+    ensures loads { Between (shelf_by H.holds H.asked H.missed H.faults H.misses)
+        shelf.old shelf.new (λ before now. Loads (λ v. v.items) name.now limit before now result) }
+    ensures goes { Between (shelf_by H.holds H.asked H.missed H.faults H.misses) shelf.old shelf.new Goes }
 {
     let mut bytes = Vec::new(alloc);
     match shelf.fetch(name, limit, &mut bytes) {
@@ -42,23 +38,44 @@ fn load<'a, H: Shelf>(
     }
 }
 
-/// A tree of the first form.
-fn load_tree<'a, H: Shelf>(
+/// A well-formed tree.
+pub(crate) fn load_tree<'a, H: Shelf>(
     alloc: Global,
     shelf: &mut H,
     name: &'a str,
 ) -> Result<LoadedTree, Ending<'a>>
-    ensures reads { ReadsTree name.now
-        (seen_by H.holds H.asked H.missed H.faults H.misses shelf.old)
-        (seen_by H.holds H.asked H.missed H.faults H.misses shelf.new)
-        result }
-    ensures goes { Goes
-        (seen_by H.holds H.asked H.missed H.faults H.misses shelf.old)
-        (seen_by H.holds H.asked H.missed H.faults H.misses shelf.new) }
+    ensures reads { Between (shelf_by H.holds H.asked H.missed H.faults H.misses)
+        shelf.old shelf.new (λ before now. ReadsTree name.now before now result) }
+    ensures goes { Between (shelf_by H.holds H.asked H.missed H.faults H.misses) shelf.old shelf.new Goes }
 {
     let bytes = load(alloc, shelf, name, TREE_LIMIT)?;
     match read_tree(alloc, &bytes) {
-        Ok(Some(offset)) => Ok(LoadedTree { bytes, offset }),
+        Ok(tree) => Ok(LoadedTree { bytes, tree }),
+        Err(TreeFault::Text) => Err(Ending::NoJson),
+        Err(TreeFault::Form { place, rule }) => Err(Ending::Misformed { place, rule }),
+        Err(TreeFault::Memory) => Err(Ending::NoMemory),
+    }
+}
+
+/// What a well-formed tree asks for, where the program evaluates it.
+fn load_plan<'a, H: Shelf>(
+    alloc: Global,
+    shelf: &mut H,
+    name: &'a str,
+) -> Result<PlannedTree, Ending<'a>>
+    ensures reads { Between (shelf_by H.holds H.asked H.missed H.faults H.misses)
+        shelf.old shelf.new (λ before now. ReadsPlan name.now before now result) }
+    ensures goes { Between (shelf_by H.holds H.asked H.missed H.faults H.misses) shelf.old shelf.new Goes }
+{
+    let loaded = match load_tree(alloc, shelf, name) {
+        Ok(loaded) => loaded,
+        Err(ending) => return Err(ending),
+    };
+    match find_plan(alloc, &loaded.tree) {
+        Ok(Some(plan)) => Ok(PlannedTree {
+            bytes: loaded.bytes,
+            plan,
+        }),
         Ok(None) => Err(Ending::NotBuilt),
         Err(Memory) => Err(Ending::NoMemory),
     }
@@ -66,16 +83,19 @@ fn load_tree<'a, H: Shelf>(
 
 /// The mesh of an input.
 fn load_input<'a, H: Shelf>(alloc: Global, shelf: &mut H, name: &'a str) -> Result<Mesh, Ending<'a>>
-    ensures reads { ReadsInput name.now
-        (seen_by H.holds H.asked H.missed H.faults H.misses shelf.old)
-        (seen_by H.holds H.asked H.missed H.faults H.misses shelf.new)
-        result }
-    ensures goes { Goes
-        (seen_by H.holds H.asked H.missed H.faults H.misses shelf.old)
-        (seen_by H.holds H.asked H.missed H.faults H.misses shelf.new) }
+    ensures reads { Between (shelf_by H.holds H.asked H.missed H.faults H.misses)
+        shelf.old shelf.new (λ before now. ReadsInput name.now before now result) }
+    ensures goes { Between (shelf_by H.holds H.asked H.missed H.faults H.misses) shelf.old shelf.new Goes }
 {
     let bytes = load(alloc, shelf, name, INPUT_LIMIT)?;
-    match read_obj(alloc, &bytes) {
+    mesh_in(alloc, &bytes)
+}
+
+/// The mesh that bytes spell.
+fn mesh_in<'a>(alloc: Global, bytes: &[u8]) -> Result<Mesh, Ending<'a>>
+    ensures { OwnInput bytes.now result }
+{
+    match read_obj(alloc, bytes) {
         Ok(mesh) => Ok(mesh),
         Err(ObjFault::Bad { line, rule }) => Err(Ending::BadLine { line, rule }),
         Err(ObjFault::Memory) => Err(Ending::NoMemory),
@@ -83,47 +103,41 @@ fn load_input<'a, H: Shelf>(alloc: Global, shelf: &mut H, name: &'a str) -> Resu
 }
 
 /// The bytes of the tree, where they are the input too.
-fn own_input<'a>(alloc: Global, loaded: LoadedTree) -> Result<Prepared, Ending<'a>>
-    ensures { OwnInput loaded result }
+fn own_input<'a>(alloc: Global, planned: PlannedTree) -> Result<Prepared, Ending<'a>>
+    ensures { OwnPrepared planned result }
 {
-    match read_obj(alloc, &loaded.bytes) {
+    match mesh_in(alloc, &planned.bytes) {
         Ok(mesh) => Ok(Prepared {
             mesh,
-            offset: loaded.offset,
+            plan: planned.plan,
         }),
-        Err(ObjFault::Bad { line, rule }) => Err(Ending::BadLine { line, rule }),
-        Err(ObjFault::Memory) => Err(Ending::NoMemory),
+        Err(ending) => Err(ending),
     }
 }
 
-/// Reads the files of the command: the tree, and then the input unless it is the same file.
+/// Reads the files of `eval`: the tree, and then the input unless it is the same file.
 pub(crate) fn prepare<'a, H: Shelf>(
     alloc: Global,
     tree: &'a str,
     input: &'a str,
     shelf: &mut H,
 ) -> Result<Prepared, Ending<'a>>
-    ensures prepares { Prepares (eval tree.now input.now)
-        (seen_by H.holds H.asked H.missed H.faults H.misses shelf.old)
-        (seen_by H.holds H.asked H.missed H.faults H.misses shelf.new)
-        result }
-    ensures goes { Goes
-        (seen_by H.holds H.asked H.missed H.faults H.misses shelf.old)
-        (seen_by H.holds H.asked H.missed H.faults H.misses shelf.new) }
+    ensures prepares { Between (shelf_by H.holds H.asked H.missed H.faults H.misses)
+        shelf.old shelf.new (λ before now. Prepares (eval tree.now input.now) before now result) }
+    ensures goes { Between (shelf_by H.holds H.asked H.missed H.faults H.misses) shelf.old shelf.new Goes }
 {
-    let loaded = match load_tree(alloc, shelf, tree) {
-        Ok(loaded) => loaded,
+    let planned = match load_plan(alloc, shelf, tree) {
+        Ok(planned) => planned,
         Err(ending) => return Err(ending),
     };
     if tree == input {
-        return own_input(alloc, loaded);
+        return own_input(alloc, planned);
     }
-    let mesh = match load_input(alloc, shelf, input) {
-        Ok(mesh) => mesh,
-        Err(ending) => return Err(ending),
-    };
-    Ok(Prepared {
-        mesh,
-        offset: loaded.offset,
-    })
+    match load_input(alloc, shelf, input) {
+        Ok(mesh) => Ok(Prepared {
+            mesh,
+            plan: planned.plan,
+        }),
+        Err(ending) => Err(ending),
+    }
 }

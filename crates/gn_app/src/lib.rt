@@ -2,16 +2,17 @@
 //!
 //! Both top calls are handed the outside world: a shelf of files, a sink for the output, a sink for
 //! messages, and a meter. For every list of words they keep one statement, the record `IsCall` of
-//! `specs/Run.antt`: the status is the one that the files lead to; where it is `Done`, the bytes
-//! written are the text of what the tree gives out for its input, the files asked for are the tree
-//! and the input, each once, and the node runs are as many as the nodes demanded; any other end is
-//! told by a line on the sink of messages. Words that spell no command touch no file and no output.
-//! So far the commands are `eval TREE OBJ`, `--help` and `--version`, a tree has one node that moves
-//! every vertex by the same offset, and an input is any OBJ text.
+//! `specs/Run.antt`: the status is the one that the files lead to; where it is `Done` for `eval`, the
+//! bytes written are the text of the geometry that stands at what the tree gives out, the files asked
+//! for are the tree and the input, each once, and the node runs are as many as the nodes demanded; any
+//! other end is told by a line on the sink of messages. `check` asks for the tree alone, runs no node
+//! and writes `ok`. Words that spell no command touch no file and no output.
 //!
-//! The crate stands on the definitions of `gn_meaning`, `gn_rows`, `gn_json` and `gn_elements`, on the
-//! meshes of `gn_geom` and their texts in `gn_obj`, on the outside of `gn_io`, the meter of
-//! `gn_shared`, the numbers of `gn_value`, and `gn_decimal`.
+//! A tree is read and checked by `gn_read`. So far `eval` evaluates the trees for which `gn_origin`
+//! finds a plan; every other well-formed tree ends as `NotBuilt`. What a plan makes is what the tree
+//! means by the laws of `gn_plan_laws`, over `gn_meaning` and `gn_rows`. Meshes and their texts are
+//! those of `gn_geom`, `gn_elements` and `gn_obj`, the outside is that of `gn_io`, and the meter that
+//! of `gn_shared`.
 #![tactic(auto)]
 
 mod command;
@@ -20,10 +21,8 @@ mod files;
 mod load;
 mod message;
 mod moving;
-mod offset;
 mod request;
 mod status;
-mod tree;
 
 pub use command::{run, run_alone};
 pub use status::Status;

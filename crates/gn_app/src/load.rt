@@ -1,16 +1,24 @@
+use gn_check::GoodTree;
 use gn_geom::Mesh;
-use gn_value::V3;
+use gn_origin::Plan;
 
-/// The bytes of a tree, and what its node moves by.
+/// A well-formed tree, and the bytes of its text.
 #[derive(Drop)]
 pub(crate) struct LoadedTree {
     pub(crate) bytes: Vec<u8>,
-    pub(crate) offset: V3,
+    pub(crate) tree: GoodTree,
 }
 
-/// The mesh of the input, and what to move it by.
+/// What a tree asks for, and the bytes of its text.
+#[derive(Drop)]
+pub(crate) struct PlannedTree {
+    pub(crate) bytes: Vec<u8>,
+    pub(crate) plan: Plan,
+}
+
+/// What a tree asks for, and the mesh of its input.
 #[derive(Drop)]
 pub(crate) struct Prepared {
     pub(crate) mesh: Mesh,
-    pub(crate) offset: V3,
+    pub(crate) plan: Plan,
 }

@@ -1,8 +1,8 @@
 ghost use Rattle.std.specs.Prelude.{◌≡◌, ◌≤◌, ◌++◌, flat_map};
 ghost use Rattle.gn_io.specs.Outside.{Rose};
-ghost use Rattle.gn_app.specs.Ending.{bad_line, said_of};
+ghost use Rattle.gn_app.specs.Ending.{misformed, bad_line, said_of};
 ghost use Rattle.gn_app.specs.Outcome.{Says};
-ghost use Rattle.gn_app.specs.Run.{Tells, taken_by};
+ghost use Rattle.gn_app.specs.Run.{Tells, sink_by};
 ghost use Rattle.gn_app.specs.Seen.{ending_of};
 
 use crate::ending::Ending;
@@ -23,7 +23,7 @@ fn put_pieces<E: Sink>(err: &mut E, pieces: &[&str])
 
 /// Writes the line that tells which line of an input is bad, and by which rule.
 fn tell_bad_line<E: Sink>(err: &mut E, line: u64, rule: u8)
-    ensures { Tells (said_of (bad_line line rule)) (taken_by E.held E.faults err.old) (taken_by E.held E.faults err.new) }
+    ensures { Tells (said_of (bad_line line rule)) (sink_by E.held E.faults err.old) (sink_by E.held E.faults err.new) }
 {
     let mut line_buffer = Buffer::new();
     let mut rule_buffer = Buffer::new();
@@ -32,9 +32,18 @@ fn tell_bad_line<E: Sink>(err: &mut E, line: u64, rule: u8)
     put_pieces(err, &["geonodes: obj text: line ", line, ": O", rule, "\n"])
 }
 
+/// Writes the line that tells which rule a tree breaks, and where.
+fn tell_misform<E: Sink>(err: &mut E, place: &str, rule: u8)
+    ensures { Tells (said_of (misformed rule place.now)) (sink_by E.held E.faults err.old) (sink_by E.held E.faults err.new) }
+{
+    let mut buffer = Buffer::new();
+    let rule = buffer.format(rule);
+    put_pieces(err, &["geonodes: tree form: F", rule, " at ", place, "\n"])
+}
+
 /// Writes the line of an end, and nothing where the run is done. It takes no memory.
 pub(crate) fn tell<E: Sink>(err: &mut E, ending: &Ending<'_>)
-    ensures { Tells (said_of (ending_of ending.now)) (taken_by E.held E.faults err.old) (taken_by E.held E.faults err.new) }
+    ensures { Tells (said_of (ending_of ending.now)) (sink_by E.held E.faults err.old) (sink_by E.held E.faults err.new) }
 {
     match ending {
         Ending::Done => {}
@@ -58,6 +67,8 @@ pub(crate) fn tell<E: Sink>(err: &mut E, ending: &Ending<'_>)
                 ],
             )
         }
+        Ending::NoJson => put_pieces(err, &["geonodes: tree text\n"]),
+        Ending::Misformed { place, rule } => tell_misform(err, place.as_str(), *rule),
         Ending::BadLine { line, rule } => tell_bad_line(err, *line, *rule),
         Ending::Overlong { name, length } => {
             let mut buffer = Buffer::new();

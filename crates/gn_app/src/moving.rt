@@ -1,31 +1,72 @@
 ghost use Rattle.std.specs.Prelude.{◌≡◌, IfOk, map};
 ghost use Rattle.gn_geom.specs.Geometries.{plain_geometry};
 ghost use Rattle.gn_geom.specs.Meshes.{plain_of};
-ghost use Rattle.gn_rows.specs.SetPosition.{vector_sum};
-ghost use Rattle.gn_app.specs.Load.{moved_mesh};
+ghost use Rattle.gn_origin.specs.Answers.{plan_of};
+ghost use Rattle.gn_plan_laws.specs.Made.{made as plain_made, runs_of};
+ghost use Rattle.gn_rows.specs.Moves as spec;
 
 use crate::load::Prepared;
-use gn_geom::Geometry;
+use gn_geom::{Geometry, Mesh};
 use gn_memory::Memory;
+use gn_origin::Plan;
 use gn_value::V3;
 use std::alloc::Global;
 
-/// Adds the offset to each point.
-fn move_points(points: &mut [V3], offset: V3)
-    ensures { points.new ≡ map (λ p. vector_sum p offset) points.old }
+/// Where a point goes: to the position, its own where there is none, and by the offset.
+fn moved_point(point: V3, to: Option<V3>, by: V3) -> V3
+    ensures { result ≡ spec.moved_point true to by point }
 {
-    for point in points.iter_mut() {
-        *point = point.add(offset);
+    match to {
+        Some(position) => position.add(by),
+        None => point.add(by),
     }
 }
 
-/// The mesh with its vertices moved.
-pub(crate) fn moved(alloc: Global, prepared: Prepared) -> Result<Geometry, Memory>
-    ensures { IfOk result (λ g. plain_geometry g ≡ record { mesh = moved_mesh (plain_of prepared.mesh) prepared.offset }) }
+/// Moves each point.
+fn move_points(points: &mut [V3], to: Option<V3>, by: V3)
+    ensures { points.new ≡ map (spec.moved_point true to by) points.old }
 {
-    let Prepared { mut mesh, offset } = prepared;
+    for point in points.iter_mut() {
+        *point = moved_point(*point, to, by);
+    }
+}
+
+/// The mesh with its points moved.
+fn moved_mesh(alloc: Global, mut mesh: Mesh, to: Option<V3>, by: V3) -> Result<Mesh, Memory>
+    ensures { IfOk result (λ m. plain_of m ≡ spec.moved_shape true to by (plain_of mesh)) }
+{
     let mut points = mesh.points().to_vec(alloc)?;
-    move_points(&mut points, offset);
+    move_points(&mut points, to, by);
     mesh.set_points(points)?;
-    Ok(Geometry { mesh })
+    Ok(mesh)
+}
+
+/// Whether a node runs for the plan.
+pub(crate) fn runs_a_node(plan: &Plan) -> bool
+    ensures { if result then runs_of (plan_of plan.now) ≡ 1 else runs_of (plan_of plan.now) ≡ 0 }
+{
+    match plan {
+        Plan::Move { .. } => true,
+        _ => false,
+    }
+}
+
+/// What the plan makes of the mesh of the input.
+pub(crate) fn made(alloc: Global, prepared: Prepared) -> Result<Geometry, Memory>
+    ensures { IfOk result (λ g. plain_geometry g ≡ plain_made (plan_of prepared.plan) (plain_of prepared.mesh)) }
+{
+    let Prepared { mesh, plan } = prepared;
+    match plan {
+        Plan::Empty => Geometry::empty(alloc),
+        Plan::Input => Ok(Geometry { mesh }),
+        Plan::Move { selected: false, .. } => Ok(Geometry { mesh }),
+        Plan::Move {
+            selected: true,
+            to,
+            by,
+        } => {
+            let mesh = moved_mesh(alloc, mesh, to, by)?;
+            Ok(Geometry { mesh })
+        }
+    }
 }

@@ -1,12 +1,13 @@
 ghost use Rattle.std.specs.Prelude.{◌≡◌, Result, Ok, Err, map, string_bytes, option_map};
 ghost use Rattle.gn_app.specs.Command.{Spells, SpellsNone, Misfits};
 ghost use Rattle.gn_app.specs.Seen.{command_of};
-ghost use Rattle.gn_app.specs.Steps.{Reads, ReadsOperands, ReadsAlone};
+ghost use Rattle.gn_app.specs.Steps.{Reads, ReadsOperands, ReadsOperand, ReadsAlone};
 
 /// What the words of the command line ask for.
 #[derive(Clone, Copy)]
 pub(crate) enum Request<'a> {
     Eval { tree: &'a str, input: &'a str },
+    Check { tree: &'a str },
     Help,
     Version,
 }
@@ -26,6 +27,21 @@ fn eval_with(operands: &[String]) -> Result<Request<'_>, Option<&str>>
         None => Ok(Request::Eval {
             tree: tree.as_str(),
             input: input.as_str(),
+        }),
+    }
+}
+
+/// The operand of `check`, or the word behind it, or none where there is none.
+fn check_with(operands: &[String]) -> Result<Request<'_>, Option<&str>>
+    ensures { ReadsOperand (map string_bytes operands.now) result }
+{
+    let Some((tree, rest)) = operands.split_first() else {
+        return Err(None);
+    };
+    match rest.split_first() {
+        Some((word, _)) => Err(Some(word.as_str())),
+        None => Ok(Request::Check {
+            tree: tree.as_str(),
         }),
     }
 }
@@ -50,6 +66,9 @@ pub(crate) fn read_request(words: &[String]) -> Result<Request<'_>, Option<&str>
     };
     if keyword.as_str() == "eval" {
         return eval_with(rest);
+    }
+    if keyword.as_str() == "check" {
+        return check_with(rest);
     }
     if keyword.as_str() == "--help" {
         return alone(Request::Help, rest);

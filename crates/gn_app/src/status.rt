@@ -13,11 +13,15 @@ pub enum Status {
     ReadFault,
     /// The output could not be written whole.
     WriteFault,
+    /// The tree's bytes are no JSON text.
+    TreeText,
+    /// The tree is JSON, and breaks one of the rules F1 to F7.
+    TreeForm,
     /// The input is an OBJ text with a line that breaks a rule.
     ObjText,
     /// The tree or the input is longer than its limit.
     TooLong,
-    /// The tree is none that the program takes yet.
+    /// The tree is well formed, and one that the program does not evaluate yet.
     NotBuilt,
     /// There was no memory.
     Memory,
@@ -36,6 +40,8 @@ impl Status {
             Status::Absent => 3,
             Status::ReadFault => 4,
             Status::WriteFault => 5,
+            Status::TreeText => 6,
+            Status::TreeForm => 7,
             Status::ObjText => 8,
             Status::TooLong => 9,
             Status::Memory => 10,

@@ -18,9 +18,12 @@ const LIFTED: &str = "v 0 0 1\nv 1 0 1\nv 0 1 1\nf 1 2 3\n";
 /// What is written where the output takes all but the last byte.
 const ALL_BUT_ONE: &str = "v 0 0 1\nv 1 0 1\nv 0 1 1\nf 1 2 3";
 
-const NOT_BUILT: &str = "geonodes: not built\n";
+/// There is no file of that name.
+const ABSENT: &str = "absent";
 
 const EVAL: [&str; 3] = ["eval", "t.json", "in.obj"];
+
+const CHECK: [&str; 2] = ["check", "t.json"];
 
 const NAMES: [&str; 2] = ["t.json", "in.obj"];
 
@@ -34,14 +37,14 @@ struct Outcome {
     runs: u64,
 }
 
-/// A file of that name, unless its text is empty.
+/// A file of that name, unless it is absent.
 fn add_file(
     alloc: Global,
     files: &mut BTreeMap<String, Vec<u8>>,
     name: &str,
     text: &str,
 ) -> Result<(), Fail> {
-    if !text.is_empty() {
+    if text != ABSENT {
         files.insert(
             String::from_str(alloc, name)?,
             text.as_bytes().to_vec(alloc)?,
@@ -130,7 +133,7 @@ fn a_triangle_is_lifted_unless_a_file_is_refused(rt: HostRuntime) -> Result<(), 
     let cases = [
         (LIFT, TRIANGLE, 0u64, Status::Done, LIFTED, "", 2usize),
         (
-            "",
+            ABSENT,
             TRIANGLE,
             0,
             Status::Absent,
@@ -140,7 +143,7 @@ fn a_triangle_is_lifted_unless_a_file_is_refused(rt: HostRuntime) -> Result<(), 
         ),
         (
             LIFT,
-            "",
+            ABSENT,
             0,
             Status::Absent,
             "",
@@ -191,7 +194,7 @@ fn a_fault_of_writing_tells_how_many_bytes_went_in(rt: HostRuntime) -> Result<()
 
 #[test]
 fn words_that_are_no_command_touch_nothing_and_are_told(rt: HostRuntime) -> Result<(), Fail> {
-    let cases: [(&[&str], &str); 7] = [
+    let cases: [(&[&str], &str); 9] = [
         (&[], "geonodes: usage: more words expected\n"),
         (&["eval"], "geonodes: usage: more words expected\n"),
         (
@@ -199,9 +202,14 @@ fn words_that_are_no_command_touch_nothing_and_are_told(rt: HostRuntime) -> Resu
             "geonodes: usage: more words expected\n",
         ),
         (&[""], "geonodes: usage: unexpected \n"),
+        (&["check"], "geonodes: usage: more words expected\n"),
         (
             &["check", "t.json", "in.obj"],
-            "geonodes: usage: unexpected check\n",
+            "geonodes: usage: unexpected in.obj\n",
+        ),
+        (
+            &["eval", "t", "i", "--workers", "65"],
+            "geonodes: usage: unexpected --workers\n",
         ),
         (
             &["eval", "t.json", "in.obj", "--report", "x"],
@@ -221,14 +229,14 @@ fn help_and_version_need_no_file(rt: HostRuntime) -> Result<(), Fail> {
     let cases = [
         (
             "--help",
-            "usage: geonodes eval TREE OBJ\n       geonodes --help\n       geonodes --version\n",
+            "usage: geonodes eval TREE OBJ\n       geonodes check TREE\n       geonodes --help\n       geonodes --version\n",
         ),
         ("--version", "geonodes 0.1.0\n"),
     ];
     for (word, text) in cases.iter() {
-        let seen = run_over(&rt, rt.alloc(), &[*word], "", "", 1, NONE, NONE)?;
+        let seen = run_over(&rt, rt.alloc(), &[*word], ABSENT, ABSENT, 1, NONE, NONE)?;
         compare(&rt, &seen, Status::Done, text, "", 0, 0);
-        let seen = run_over(&rt, rt.alloc(), &[*word], "", "", 1, (1, 4), NONE)?;
+        let seen = run_over(&rt, rt.alloc(), &[*word], ABSENT, ABSENT, 1, (1, 4), NONE)?;
         let said = "geonodes: write fault after 4 bytes\n";
         compare(&rt, &seen, Status::WriteFault, &text[..4], said, 0, 0);
     }
@@ -243,7 +251,7 @@ fn a_message_that_can_not_be_written_changes_no_status(rt: HostRuntime) -> Resul
         ((3, 0), "geonodes: absent: t.json"),
     ];
     for (mute, said) in cases.iter() {
-        let seen = run_over(&rt, rt.alloc(), &EVAL, "", TRIANGLE, 0, NONE, *mute)?;
+        let seen = run_over(&rt, rt.alloc(), &EVAL, ABSENT, TRIANGLE, 0, NONE, *mute)?;
         compare(&rt, &seen, Status::Absent, "", said, 1, 0);
     }
     Ok(())
@@ -324,27 +332,134 @@ fn a_sum_past_the_range_stops_at_its_end(rt: HostRuntime) -> Result<(), Fail> {
     Ok(())
 }
 
+const EMPTY_TREE: &str = r#"{"format":1,"nodes":[]}"#;
+
+const INPUT_TREE: &str =
+    r#"{"format":1,"nodes":[],"output":{"from":"input","socket":"geometry"}}"#;
+
+/// Points go to (1, 2, 3) and then by (0, 0, 1).
+const PLACING_TREE: &str =
+    r#"{"format":1,"nodes":[{"id":"m","kind":"set_position","in":{"geometry":{"from":"input","socket":"geometry"},"position":["1","2","3"],"offset":["0","0","1"]}}],"output":{"from":"m","socket":"geometry"}}"#;
+
+/// No point is selected.
+const RESTING_TREE: &str =
+    r#"{"format":1,"nodes":[{"id":"m","kind":"set_position","in":{"geometry":{"from":"input","socket":"geometry"},"selection":false,"offset":["0","0","1"]}}],"output":{"from":"m","socket":"geometry"}}"#;
+
+/// A group in a group: -1.5 becomes the integer -1 on the way in, and then a vector.
+const GROUPED_TREE: &str =
+    r#"{"format":1,"groups":[{"name":"inner","inputs":[{"name":"g","kind":"geometry"},{"name":"by","kind":"int"}],"outputs":[{"name":"g","kind":"geometry"}],"nodes":[{"id":"m","kind":"set_position","in":{"geometry":{"from":"input","socket":"g"},"offset":{"from":"input","socket":"by"}}}],"output":{"g":{"from":"m","socket":"geometry"}}},{"name":"outer","inputs":[{"name":"by","kind":"fixed"},{"name":"g","kind":"geometry"}],"outputs":[{"name":"g","kind":"geometry"}],"nodes":[{"id":"n","kind":"group","set":{"group":"inner"},"in":{"by":{"from":"input","socket":"by"},"g":{"from":"input","socket":"g"}}}],"output":{"g":{"from":"n","socket":"g"}}}],"nodes":[{"id":"up","kind":"group","set":{"group":"outer"},"in":{"by":"-1.5","g":{"from":"input","socket":"geometry"}}}],"output":{"from":"up","socket":"g"}}"#;
+
 #[test]
-fn trees_have_one_node_that_moves(rt: HostRuntime) -> Result<(), Fail> {
-    let bad = [
-        "{",
-        "[]",
-        "{\"format\":2,\"nodes\":[{\"id\":\"up\",\"kind\":\"set_position\",\"in\":{\"geometry\":{\"from\":\"input\",\"socket\":\"geometry\"},\"offset\":[\"0\",\"0\",\"1\"]}}],\"output\":{\"from\":\"up\",\"socket\":\"geometry\"}}",
-        "{\"format\":1,\"nodes\":[],\"output\":{\"from\":\"up\",\"socket\":\"geometry\"}}",
-        "{\"format\":1,\"nodes\":[{\"id\":\"input\",\"kind\":\"set_position\",\"in\":{\"geometry\":{\"from\":\"input\",\"socket\":\"geometry\"},\"offset\":[\"0\",\"0\",\"1\"]}}],\"output\":{\"from\":\"input\",\"socket\":\"geometry\"}}",
-        "{\"format\":1,\"nodes\":[{\"id\":\"up\",\"kind\":\"set_position\",\"in\":{\"geometry\":{\"from\":\"input\",\"socket\":\"geometry\"},\"offset\":[\"0\",\"0\",1]}}],\"output\":{\"from\":\"up\",\"socket\":\"geometry\"}}",
-        "{\"format\":1,\"nodes\":[{\"id\":\"up\",\"kind\":\"set_position\",\"in\":{\"geometry\":{\"from\":\"input\",\"socket\":\"geometry\"},\"offset\":[\"0\",\"0\"]}}],\"output\":{\"from\":\"up\",\"socket\":\"geometry\"}}",
-        "{\"format\":1,\"nodes\":[{\"id\":\"up\",\"kind\":\"set_position\",\"in\":{\"geometry\":{\"from\":\"input\",\"socket\":\"geometry\"},\"offset\":[\"0\",\"0\",\"1\"]},\"set\":{}}],\"output\":{\"from\":\"up\",\"socket\":\"geometry\"}}",
-        "{\"format\":1,\"nodes\":[{\"id\":\"up\",\"kind\":\"set_position\",\"in\":{\"geometry\":{\"from\":\"input\",\"socket\":\"geometry\"},\"offset\":[\"0\",\"0\",\"1\"]}}],\"output\":{\"from\":\"down\",\"socket\":\"geometry\"}}",
+fn trees_give_out_what_they_mean(rt: HostRuntime) -> Result<(), Fail> {
+    let cases = [
+        (EMPTY_TREE, "", "", 0u64),
+        (EMPTY_TREE, TRIANGLE, "", 0),
+        (INPUT_TREE, TRIANGLE, TRIANGLE, 0),
+        (
+            INPUT_TREE,
+            "v 1e-05 -0.1 2.5000000001 1\n",
+            "v 0.0000100001 -0.1000000001 2.5\n",
+            0,
+        ),
+        (
+            PLACING_TREE,
+            TRIANGLE,
+            "v 1 2 4\nv 1 2 4\nv 1 2 4\nf 1 2 3\n",
+            1,
+        ),
+        (RESTING_TREE, TRIANGLE, TRIANGLE, 1),
+        (
+            GROUPED_TREE,
+            TRIANGLE,
+            "v -1 -1 -1\nv 0 -1 -1\nv -1 0 -1\nf 1 2 3\n",
+            1,
+        ),
     ];
-    for tree in bad.iter() {
-        let seen = run_over(&rt, rt.alloc(), &EVAL, tree, TRIANGLE, 0, NONE, NONE)?;
-        compare(&rt, &seen, Status::NotBuilt, "", NOT_BUILT, 1, 0);
+    for (tree, input, text, runs) in cases.iter() {
+        let seen = run_over(&rt, rt.alloc(), &EVAL, tree, input, 0, NONE, NONE)?;
+        compare(&rt, &seen, Status::Done, text, "", 2, *runs);
     }
-    let good =
-        "{ \"nodes\": [ {\"in\": {\"offset\": [\"0\", \"-0\", \"01\"], \"geometry\": {\"socket\": \"geometry\", \"from\": \"input\"}}, \"kind\": \"set_position\", \"id\": \"a_1\"} ], \"output\": {\"from\": \"a_1\", \"socket\": \"geometry\"}, \"format\": 1 }";
-    let seen = run_over(&rt, rt.alloc(), &EVAL, good, TRIANGLE, 0, NONE, NONE)?;
-    compare(&rt, &seen, Status::Done, LIFTED, "", 2, 1);
+    Ok(())
+}
+
+const IMPORT_TREE: &str =
+    r#"{"format":1,"nodes":[{"id":"i","kind":"import_obj","set":{"file":"a.obj"}}],"output":{"from":"i","socket":"geometry"}}"#;
+
+const SWITCH_TREE: &str =
+    r#"{"format":1,"nodes":[{"id":"s","kind":"switch","set":{"type":"geometry"},"in":{"switch":true,"true":{"from":"input","socket":"geometry"}}}],"output":{"from":"s","socket":"output"}}"#;
+
+#[test]
+fn well_formed_trees_are_checked_alone(rt: HostRuntime) -> Result<(), Fail> {
+    let trees = [
+        EMPTY_TREE,
+        INPUT_TREE,
+        LIFT,
+        GROUPED_TREE,
+        IMPORT_TREE,
+        SWITCH_TREE,
+    ];
+    for tree in trees.iter() {
+        let seen = run_over(&rt, rt.alloc(), &CHECK, tree, ABSENT, 0, NONE, NONE)?;
+        compare(&rt, &seen, Status::Done, "ok\n", "", 1, 0);
+    }
+    let seen = run_over(&rt, rt.alloc(), &CHECK, LIFT, ABSENT, 0, (1, 2), NONE)?;
+    let said = "geonodes: write fault after 2 bytes\n";
+    compare(&rt, &seen, Status::WriteFault, "ok", said, 1, 0);
+    for tree in [IMPORT_TREE, SWITCH_TREE].iter() {
+        let seen = run_over(&rt, rt.alloc(), &EVAL, tree, ABSENT, 0, NONE, NONE)?;
+        compare(&rt, &seen, Status::NotBuilt, "", "geonodes: not built\n", 1, 0);
+    }
+    Ok(())
+}
+
+/// Each of two nodes leads to the other.
+const CIRCLE: &str =
+    r#"{"format":1,"nodes":[{"id":"a","kind":"set_position","in":{"geometry":{"from":"b","socket":"geometry"}}},{"id":"b","kind":"set_position","in":{"geometry":{"from":"a","socket":"geometry"}}}],"output":{"from":"b","socket":"geometry"}}"#;
+
+const FLOAT_FROM_NUMBER: &str =
+    r#"{"format":1,"nodes":[{"id":"a","kind":"float","set":{"value":0.5}}]}"#;
+
+/// As many opening brackets and as many closing ones.
+fn brackets(alloc: Global, count: usize) -> Result<String, Fail> {
+    let mut text = String::new(alloc);
+    for _ in 0..count {
+        text.push_str("[")?;
+    }
+    for _ in 0..count {
+        text.push_str("]")?;
+    }
+    Ok(text)
+}
+
+#[test]
+fn trees_that_are_not_well_formed_are_told(rt: HostRuntime) -> Result<(), Fail> {
+    let deep = brackets(rt.alloc(), 128)?;
+    let text = "geonodes: tree text\n";
+    let cases = [
+        (deep.as_str(), Status::TreeText, text),
+        ("{", Status::TreeText, text),
+        (
+            "[]",
+            Status::TreeForm,
+            "geonodes: tree form: F1 at /\n",
+        ),
+        (
+            FLOAT_FROM_NUMBER,
+            Status::TreeForm,
+            "geonodes: tree form: F1 at /nodes/0/set/value\n",
+        ),
+        (
+            CIRCLE,
+            Status::TreeForm,
+            "geonodes: tree form: F5 at /nodes/0\n",
+        ),
+    ];
+    for (tree, status, said) in cases.iter() {
+        let seen = run_over(&rt, rt.alloc(), &EVAL, tree, TRIANGLE, 0, NONE, NONE)?;
+        compare(&rt, &seen, *status, "", said, 1, 0);
+        let seen = run_over(&rt, rt.alloc(), &CHECK, tree, ABSENT, 0, NONE, NONE)?;
+        compare(&rt, &seen, *status, "", said, 1, 0);
+    }
     Ok(())
 }
 

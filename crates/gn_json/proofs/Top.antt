@@ -14,8 +14,7 @@ use Rattle.gn_form.specs.Form.{BreaksForm}
 use Rattle.gn_form.specs.Order.{InOrder}
 use Rattle.gn_form.proofs.Sorted.{read_in_order}
 use Rattle.gn_tree.specs.declared.tree.Tree.{Tree}
-use Rattle.gn_json.specs.Tree.{json}
-use Rattle.gn_json.specs.Answers.{Answers, IsTreeWhereFit, Judged}
+use Rattle.gn_json.specs.Answers.{json, Answers, IsTreeWhereFit, Judged}
 use Rattle.gn_json.specs.declared.fault.JsonFault.{JsonFault}
 use Rattle.gn_json.specs.declared.fault.JsonFault.TheVariants as fault
 use Rattle.gn_json.proofs.Whole.{tree_is_whole}

@@ -1,8 +1,10 @@
 -- What reading the bytes of a tree says.
-use Rattle.std.specs.Prelude.{◌≡◌, ℕ, List, Option, Some, None, IsSome, Result, Ok, Err, string_bytes}
+use Rattle.std.specs.Prelude.{◌≡◌, ℕ, List, Option, Some, None, IsSome, Result, Ok, Err, string_bytes, if◌then◌else◌}
 use Rattle.std.specs.declared.alloc.Global.{Global}
 use Rattle.std.specs.declared.collections.VecDeque.{VecDeque}
+use Rattle.std.specs.Str.{is_utf8}
 use Rattle.serde_json.specs.Data.{Data}
+use Rattle.serde_json.specs.Read.{read}
 use Rattle.gn_memory.specs.declared.Memory.{Memory}
 use Rattle.gn_pointers.specs.Seen.{pointer_of}
 use Rattle.gn_pointers.specs.declared.step.Step.{Step}
@@ -11,11 +13,14 @@ use Rattle.gn_pointers.specs.Texts.{pointer_text}
 use Rattle.gn_form.specs.Form.{BreaksForm}
 use Rattle.gn_tree.specs.Seen.{tree_of}
 use Rattle.gn_tree.specs.declared.tree.Tree.{Tree}
-use Rattle.gn_json.specs.Tree.{json}
 use Rattle.gn_json.specs.Exact.{tree_from}
 use Rattle.gn_json.specs.Typed.{tree_in}
 use Rattle.gn_json.specs.declared.fault.JsonFault.{JsonFault}
 use Rattle.gn_json.specs.declared.fault.JsonFault.TheVariants as fault
+
+-- the JSON value that the bytes are
+abbrev pub json : List ℕ → Option Data
+json bytes = if is_utf8 bytes then read bytes else None
 
 -- the bytes are a JSON value, and this is the first pointer where it is not of a tree's form
 abbrev pub FirstMisfit : List ℕ → Data → Option Pointer → Type 0

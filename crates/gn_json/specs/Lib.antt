@@ -1,4 +1,3 @@
-pub mod Tree
 pub mod Exact
 pub mod Typed
 pub mod Settings

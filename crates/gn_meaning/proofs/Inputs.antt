@@ -153,7 +153,7 @@ module _ (t : Tree) (keeps : KeepsRules t) (s : Scope) (way : Way) where
       one_more : (reads rest : List Read) (n : ℕ) → length reads ≡ 1 → length rest ≡ n → length (reads ++ rest) ≡ suc n
       one_more reads rest n e f = length-append reads rest ∙ (let sum : length reads + length rest ≡ suc n = omega (arith, e, f) in sum)
 
-      reads_once : (ds : List Declared) (defaults : List DefaultValue) → AllSingle ds → length (reads_of s way xs ds defaults) ≡ length ds
+      pub reads_once : (ds : List Declared) (defaults : List DefaultValue) → AllSingle ds → length (reads_of s way xs ds defaults) ≡ length ds
       reads_once [] defaults one = refl
       reads_once (d ∷ ds) [] one = one_more (socket_reads s way xs d Zero) (reads_of s way xs ds []) (length ds) (socket_once d Zero one.0) (reads_once ds [] one.1)
       reads_once (d ∷ ds) (x ∷ more) one = one_more (socket_reads s way xs d x) (reads_of s way xs ds more) (length ds) (socket_once d x one.0) (reads_once ds more one.1)

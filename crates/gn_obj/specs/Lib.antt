@@ -1,4 +1,3 @@
-pub mod ShortNumbers
 pub mod Faults
 pub mod Written
 pub mod FaceTexts

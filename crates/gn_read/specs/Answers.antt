@@ -4,9 +4,8 @@ use Rattle.serde_json.specs.Data.{Data}
 use Rattle.gn_pointers.specs.Pointers.{Pointer}
 use Rattle.gn_pointers.specs.Texts.{pointer_text}
 use Rattle.gn_tree.specs.Trees.{Tree}
-use Rattle.gn_json.specs.Tree.{json}
 use Rattle.gn_json.specs.Exact.{tree_from}
-use Rattle.gn_json.specs.Answers.{FirstMisfit}
+use Rattle.gn_json.specs.Answers.{json, FirstMisfit}
 use Rattle.gn_rules.specs.declared.rule.Rule.{Rule}
 use Rattle.gn_rules.specs.Number.{number_of}
 use Rattle.gn_rules.specs.Rules.{IsNamed, KeepsRules}

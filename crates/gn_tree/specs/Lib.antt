@@ -1,5 +1,3 @@
-pub mod Tree
-pub mod Kinds
 pub mod Trees
 pub mod NodeKinds
 pub mod Rising

@@ -2,9 +2,8 @@
 //!
 //! `Tree` holds what a file of a tree spells, once it is of its form, and `Kind` a kind of node with
 //! the values of its settings. Contracts see a node as the data of `Trees`: texts are lists of bytes,
-//! and the nodes of a zone stand in its setting. The table of kinds and places is in `gn_kinds`; the
-//! modules `Tree` and `Kinds` of the definitions hold trees of a first form, as the program reads them.
-//! The crate stands on `gn_value`, `gn_plain` and `gn_kinds`.
+//! and the nodes of a zone stand in its setting. The table of kinds and places is in `gn_kinds`.
+//! The crate stands on it and on `gn_value`.
 #![tactic(auto)]
 
 mod kind;
