@@ -12,9 +12,9 @@ use Rattle.std.proofs.lemmas.Slice.Eq.{bytes_eq-Decides}
 use Rattle.serde_json.specs.Data.{Data}
 use Rattle.gn_io.specs.Files.{FileAnswer, whole, absent, too_long}
 use Rattle.gn_kinds.specs.Row.{Text}
-use Rattle.gn_places.specs.Place.{Step, index, key, Place, step_cmp, place_cmp, IsFirst}
-use Rattle.gn_places.specs.Pointer.{pointer_text}
-use Rattle.gn_places.proofs.Order.{step_total}
+use Rattle.gn_pointers.specs.Pointers.{Step, index, key, Pointer, step_cmp, pointer_cmp, IsFirst}
+use Rattle.gn_pointers.specs.Texts.{pointer_text}
+use Rattle.gn_pointers.proofs.Order.{step_total}
 use Rattle.gn_tree.specs.Trees.{Tree}
 use Rattle.gn_form.specs.Form.{BreaksForm}
 use Rattle.gn_rules.specs.declared.rule.Rule.{Rule}
@@ -29,7 +29,7 @@ use Rattle.gn_app.specs.Ending.{Ending, done, misused, no_file, unreadable, unwr
 use Rattle.gn_app.specs.Job.{Job, IsTree, BreaksRule, TextGives, TreeGiven, TreeLeads, checked, with_mesh, mesh_given, Giving, Leads, tree_limit, input_limit}
 use Rattle.gn_app.specs.Run.{ending_for}
 
--- ---- the first place is one
+-- ---- the first pointer is one
 
 not_less : (i j : ℕ) → nat_cmp i j ≡ Equal → ¬ (i < j)
 not_less i j e h = let less : Less ≡ nat_cmp i j = nat_cmp_is i j Less h in cc
@@ -51,13 +51,13 @@ step_same (key k) (key l) e = ap key ((bytes_eq-Decides k l).0 (sym (is_eq-slice
 step_same (index i) (key l) e = cc
 step_same (key k) (index j) e = cc
 
-place_same : (p q : Place) → place_cmp p q ≡ Equal → p ≡ q
+place_same : (p q : Pointer) → pointer_cmp p q ≡ Equal → p ≡ q
 place_same [] [] e = refl
 place_same [] (t ∷ q) e = cc
 place_same (s ∷ p) [] e = cc
 place_same (s ∷ p) (t ∷ q) e = tied (step_cmp s t) refl e
   where
-    tied : (o : Ordering) → step_cmp s t ≡ o → ordering_then o (place_cmp p q) ≡ Equal → s ∷ p ≡ t ∷ q
+    tied : (o : Ordering) → step_cmp s t ≡ o → ordering_then o (pointer_cmp p q) ≡ Equal → s ∷ p ≡ t ∷ q
     tied Less f e = cc
     tied Greater f e = cc
     tied Equal f e = rw (step_same s t f, place_same p q e) refl
@@ -67,10 +67,10 @@ neither Less e f = cc
 neither Equal e f = refl
 neither Greater e f = cc
 
-first_is_one : (P : Place → Type 0) (p q : Place) → IsFirst P (Some p) → IsFirst P (Some q) → p ≡ q
+first_is_one : (P : Pointer → Type 0) (p q : Pointer) → IsFirst P (Some p) → IsFirst P (Some q) → p ≡ q
 first_is_one P p q h k =
-    let back : place_cmp q p ≡ ordering_reverse (place_cmp p q) = (lists_total step_total).antisymm q p in
-    place_same p q (neither (place_cmp p q) (h.1 q k.0) (ap is_gt (sym back) ∙ k.1 p h.0))
+    let back : pointer_cmp q p ≡ ordering_reverse (pointer_cmp p q) = (lists_total step_total).antisymm q p in
+    place_same p q (neither (pointer_cmp p q) (h.1 q k.0) (ap is_gt (sym back) ∙ k.1 p h.0))
 
 -- ---- a text gives one tree or one reason
 
@@ -86,14 +86,14 @@ one_tree bytes t t' h h' =
     some_same (tree_from h'.0) (ap tree_from (sym same) ∙ h.2) h'.2
 
 -- a value of the form has no misfit
-fits_or_not : (bytes : List ℕ) (d d' : Data) (p : Place) → FirstMisfit bytes d None → FirstMisfit bytes d' (Some p) → ⊥
+fits_or_not : (bytes : List ℕ) (d d' : Data) (p : Pointer) → FirstMisfit bytes d None → FirstMisfit bytes d' (Some p) → ⊥
 fits_or_not bytes d d' p h k = h.1 p (subst (λ x. BreaksForm x p) (sym (one_value bytes d d' h.0 k.0)) k.1.0)
 
 keeps_or_breaks : (bytes : List ℕ) (t : Tree) (rule : ℕ) (text : Text) → IsTree bytes t → BreaksRule bytes rule text → ⊥
-keeps_or_breaks bytes t rule text h (place, e, inl (d, misfit, n)) = fits_or_not bytes h.0 d place h.1 misfit
-keeps_or_breaks bytes t rule text h (place, e, inr (d, t', r, fit, from, n, named)) =
+keeps_or_breaks bytes t rule text h (pointer, e, inl (d, misfit, n)) = fits_or_not bytes h.0 d pointer h.1 misfit
+keeps_or_breaks bytes t rule text h (pointer, e, inr (d, t', r, fit, from, n, named)) =
     let same : t' ≡ t = some_same (tree_from d) from (ap tree_from (one_value bytes d h.0 fit.0 h.1.0) ∙ h.2) in
-    h.3 r place (subst (λ x. IsBrokenAt x r place) same named.first.0)
+    h.3 r pointer (subst (λ x. IsBrokenAt x r pointer) same named.first.0)
 
 rule_numbered : ℕ → Rule
 rule_numbered n = if n == 2 then Names else (if n == 3 then Links else (if n == 4 then Kinds else (if n == 5 then Order else (if n == 6 then Height else Count))))
@@ -106,10 +106,10 @@ numbered Order = refl
 numbered Height = refl
 numbered Count = refl
 
-not_lesser : (t : Tree) (r q : Rule) (p p' : Place) → IsNamed t r p → IsNamed t q p' → ¬ (number_of q < number_of r)
+not_lesser : (t : Tree) (r q : Rule) (p p' : Pointer) → IsNamed t r p → IsNamed t q p' → ¬ (number_of q < number_of r)
 not_lesser t r q p p' h k less = h.least q less p' k.first.0
 
-one_rule : (t : Tree) (r q : Rule) (p p' : Place) → IsNamed t r p → IsNamed t q p' → r ≡ q
+one_rule : (t : Tree) (r q : Rule) (p p' : Pointer) → IsNamed t r p → IsNamed t q p' → r ≡ q
 one_rule t r q p p' h k =
     let same : number_of r ≡ number_of q = neither_less (number_of r) (number_of q) (not_lesser t q r p' p k h) (not_lesser t r q p p' h k) in
     sym (numbered r) ∙ ap rule_numbered same ∙ numbered q
@@ -117,16 +117,16 @@ one_rule t r q p p' h k =
 one_place : (bytes : List ℕ) (rule rule' : ℕ) (text text' : Text) → BreaksRule bytes rule text → BreaksRule bytes rule' text' → (rule ≡ rule') × (text ≡ text')
 one_place bytes rule rule' text text' (p, e, inl (d, misfit, n)) (p', e', inl (d', misfit', n')) =
     let same = one_value bytes d' d misfit'.0 misfit.0 in
-    let place : p ≡ p' = first_is_one (BreaksForm d) p p' misfit.1 (subst (λ x. IsFirst (BreaksForm x) (Some p')) same misfit'.1) in
-    (n ∙ sym n', e ∙ ap pointer_text place ∙ sym e')
+    let pointer : p ≡ p' = first_is_one (BreaksForm d) p p' misfit.1 (subst (λ x. IsFirst (BreaksForm x) (Some p')) same misfit'.1) in
+    (n ∙ sym n', e ∙ ap pointer_text pointer ∙ sym e')
 one_place bytes rule rule' text text' (p, e, inl (d, misfit, n)) (p', e', inr (d', t', r', fit, rest)) = absurd (fits_or_not bytes d' d p fit misfit)
 one_place bytes rule rule' text text' (p, e, inr (d, t, r, fit, rest)) (p', e', inl (d', misfit, n')) = absurd (fits_or_not bytes d d' p' fit misfit)
 one_place bytes rule rule' text text' (p, e, inr (d, t, r, fit, from, n, named)) (p', e', inr (d', t', r', fit', from', n', named')) =
     let same : t' ≡ t = some_same (tree_from d) (ap tree_from (one_value bytes d d' fit.0 fit'.0) ∙ from') from in
     let also : IsNamed t r' p' = subst (λ x. IsNamed x r' p') same named' in
     let one : r ≡ r' = one_rule t r r' p p' named also in
-    let place : p ≡ p' = first_is_one (IsBrokenAt t r) p p' named.first (subst (λ x. IsFirst (IsBrokenAt t x) (Some p')) (sym one) also.first) in
-    (n ∙ ap number_of one ∙ sym n', e ∙ ap pointer_text place ∙ sym e')
+    let pointer : p ≡ p' = first_is_one (IsBrokenAt t r) p p' named.first (subst (λ x. IsFirst (IsBrokenAt t x) (Some p')) (sym one) also.first) in
+    (n ∙ ap number_of one ∙ sym n', e ∙ ap pointer_text pointer ∙ sym e')
 
 -- why a text is no tree
 WhyNot : List ℕ → Ending → Type 0

@@ -3,8 +3,8 @@ use Rattle.std.specs.Prelude.{◌≡◌, ◌⊎◌, ℕ, List, Option, Some, Non
 use Rattle.serde_json.specs.Data.{Data}
 use Rattle.gn_io.specs.Files.{FileAnswer, whole, absent, too_long}
 use Rattle.gn_kinds.specs.Row.{Text}
-use Rattle.gn_places.specs.Place.{Place}
-use Rattle.gn_places.specs.Pointer.{pointer_text}
+use Rattle.gn_pointers.specs.Pointers.{Pointer}
+use Rattle.gn_pointers.specs.Texts.{pointer_text}
 use Rattle.gn_tree.specs.Trees.{Tree}
 use Rattle.gn_plain.specs.Geometry.{Shape}
 use Rattle.gn_rules.specs.Rules.{KeepsRules}
@@ -52,16 +52,16 @@ Giving = ℕ → Text → FileAnswer
 abbrev pub IsTree : List ℕ → Tree → Type 0
 IsTree bytes t = (d : Data) × FirstMisfit bytes d None × (tree_from d ≡ Some t) × KeepsRules t
 
--- the rule is the least of F1 to F7 that the value breaks, first at the place with that pointer
+-- the rule is the least of F1 to F7 that the value breaks, first at the pointer with that text
 abbrev pub BreaksRule : List ℕ → ℕ → Text → Type 0
 BreaksRule bytes rule text =
-    (place : Place) × (text ≡ pointer_text place) × (IsMisfitAt bytes rule place ⊎ IsRuleAt bytes rule place)
+    (pointer : Pointer) × (text ≡ pointer_text pointer) × (IsMisfitAt bytes rule pointer ⊎ IsRuleAt bytes rule pointer)
 
 -- the bytes are a well-formed tree, or why not
 abbrev pub TextGives : List ℕ → Result Tree Ending → Type 0
 TextGives bytes (Ok t) = IsTree bytes t
 TextGives bytes (Err no_json) = json bytes ≡ None
-TextGives bytes (Err (misformed rule place)) = BreaksRule bytes rule place
+TextGives bytes (Err (misformed rule pointer)) = BreaksRule bytes rule pointer
 TextGives bytes (Err _) = ⊥
 
 -- the file of that name has a well-formed tree, or why there is none

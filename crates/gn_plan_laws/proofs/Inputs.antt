@@ -3,7 +3,7 @@ use Rattle.std.proofs.Common.{◌≡◌, ◌⊎◌, inl, inr, ℕ, zero, suc, Li
 use Rattle.std.specs.Prelude.{Bool, true, false, bytes_eq, option_map, option_and_then, if◌then◌else◌}
 use Rattle.gn_kinds.specs.Row.{Text}
 use Rattle.gn_kinds.specs.Table.{row_of_kind, table, values, functions, elsewhere, attributes, geometry_kinds, instance_kinds, groups}
-use Rattle.gn_places.specs.Place.{key}
+use Rattle.gn_pointers.specs.Pointers.{key}
 use Rattle.gn_tree.specs.NodeKinds.{Kind}
 use Rattle.gn_tree.specs.Trees.{Named, Socket, Node, node, Settings, no_settings, and_setting, and_zone, Group, Tree, of_group}
 use Rattle.gn_rules.specs.Sockets.{Declared, is_zone, chosen, group_in, items_in, further, inputs_of, inputs_of_kind, input_of_row, one_of, node_at}
@@ -90,5 +90,5 @@ module _ (t : Tree) (keeps : KeepsRules t) (form : HasForm t) where
       let leads = leads_to t way h in
       let list : (body_at t way ≡ Some leads.0) × Holds t leads.0 = at_way t keeps form leads.1 in
       let found = map_some (part_in leads.0.scope way n) (node_at leads.0.scope.nodes n) (a_node run)
-          (sym (ap (option_and_then (λ c. option_map (part_in c.scope way n) (node_at c.scope.nodes n))) list.0) ∙ at) in
+      (sym (ap (option_and_then (λ c. option_map (part_in c.scope way n) (node_at c.scope.nodes n))) list.0) ∙ at) in
       four_of way n run leads.0 list.1 found.0 found.1 found.2 is

@@ -10,6 +10,8 @@ fn writes_pointers(rt: HostRuntime) -> Result<(), Fail> {
     pointer.push_front(Step::Key(String::from_str(alloc, "a/b~é")?))?;
     pointer.push_front(Step::Index(12))?;
     pointer.push_front(Step::Key(String::from_str(alloc, "nodes")?))?;
-    assert!(rt; pointer_string(alloc, &pointer).is_ok_and(|text| text.as_str() == "/nodes/12/a~1b~0é"));
+    assert!(rt;
+        pointer_string(alloc, &pointer).is_ok_and(|text| text.as_str() == "/nodes/12/a~1b~0é")
+    );
     Ok(())
 }
