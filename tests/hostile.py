@@ -75,8 +75,10 @@ def collisions(program, what, count, bits):
 
 def cases(colliding, count):
     """Each hostile file with an ordinary one of its length and kind: a name, whether it is a tree, both."""
-    plain = [f"n{i:05x}" for i in shuffled(range(count))]
-    yield "names that collide", True, tree(collisions(colliding, "names", count, 12)), tree(plain)
+    # A tree has at most 4 MiB.
+    nodes = min(count, 140_000)
+    plain = [f"n{i:05x}" for i in shuffled(range(nodes))]
+    yield "names that collide", True, tree(collisions(colliding, "names", nodes, 12)), tree(plain)
     yield "names in order", True, tree(sorted(plain)), tree(plain)
     fan = [(1, i, i + 1) for i in range(2, count + 2)]
     edge = [(1, 2, i) for i in range(3, count + 3)]
