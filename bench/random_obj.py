@@ -3,7 +3,7 @@
 
     python3 bench/random_obj.py [TEXTS] [SEED]
 
-makes so many texts (1,000 unless told), well formed or nearly so: numbers in every spelling, references
+makes TEXTS texts (1,000 by default), well formed or nearly so: numbers in every spelling, references
 from both ends, joined lines, comments and stray bytes. For each it works out in plain Python, with
 exact fractions, what a tree that moves nothing must write, or which line breaks which rule. It fails
 at the first text for which the program's status, output or message is another. The proved program is

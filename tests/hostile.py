@@ -3,8 +3,8 @@
 
     python3 tests/hostile.py [COUNT] [RUNS] [PROGRAM]
 
-makes trees and OBJ files with about COUNT names, faces or edges (100,000 unless told), runs each RUNS
-times (3 unless told), and prints the least time of the processor of each hostile file, that of the
+makes trees and OBJ files with about COUNT names, faces or edges (100,000 by default), runs each RUNS
+times (3 by default), and prints the least time of the processor of each hostile file, that of the
 ordinary one beside it, and their ratio. It ends with status 1 where a ratio is above 3. PROGRAM is the
 proved program; `bin/geonodes` builds it where none is named. The names and edges whose hashes collide are
 found by `tests/colliding.rs`, which `rustc` builds.
@@ -34,9 +34,10 @@ def seconds(words, runs):
 
 
 def tree(names):
-    """A tree of nodes with these names, of which one is given out."""
+    """A well-formed tree: nodes with these names stand in a group that nothing uses."""
     nodes = ",".join('{"id":"%s","kind":"id"}' % name for name in names)
-    return '{"format":1,"nodes":[%s],"output":{"from":"input","socket":"geometry"}}\n' % nodes
+    group = '{"name":"g","inputs":[],"outputs":[],"nodes":[%s]}' % nodes
+    return '{"format":1,"groups":[%s],"nodes":[]}\n' % group
 
 
 def obj(vertices, lines):
@@ -110,18 +111,16 @@ def main():
         colliding = os.path.join(folder, "colliding")
         source = os.path.join(TOP, "tests", "colliding.rs")
         subprocess.run(["rustc", "--edition=2021", "-O", "-o", colliding, source], check=True)
-        one = os.path.join(TOP, "examples", "triangle.obj")
         for name, is_tree, hostile, ordinary in cases(colliding, count):
             times = []
             for text in (hostile, ordinary):
                 path = os.path.join(folder, "case.json" if is_tree else "case.obj")
                 with open(path, "w", encoding="ascii") as file:
                     file.write(text)
-                words = [path, one] if is_tree else [TREE, path]
-                time, status = seconds([program, "eval"] + words, runs)
+                words = ["check", path] if is_tree else ["eval", TREE, path]
+                time, status = seconds([program] + words, runs)
                 times.append(time)
-                # A tree of a form that the program does not take yet is answered with 11.
-                if status not in (0, 11):
+                if status != 0:
                     sys.exit(f"{name}: the program ended with {status}")
             ratio = times[0] / times[1]
             worst = max(worst, ratio)
