@@ -3,8 +3,8 @@
 
     python3 bench/compare.py [SIDE] [RUNS]
 
-makes a grid of SIDE times SIDE vertices (1,000 unless told), as an OBJ of quads, builds `bench/plain.rs`
-with `rustc`, and runs both programs in turn (7 times unless told) on the grid and on the grid with a bad
+makes a grid of SIDE times SIDE vertices (1,000 by default), as an OBJ of quads, builds `bench/plain.rs`
+with `rustc`, and runs both programs in turn (7 times by default) on the grid and on the grid with a bad
 last line, which ends a run when all is read. It prints the least times of the processor, their ratios,
 and the memory that each program had at its peak, and fails where the two write different bytes. The
 proved program is built by `bin/geonodes` where it isn't there yet.
