@@ -1,26 +1,23 @@
 //! Names in a list, and where the first of a name stands.
 //!
 //! Contracts see `Names` as the list of its names. `first` promises the number of the first name of
-//! the list that is the one that is asked for, in one look-up, however long the list is.
-//!
-//! The places are kept in an ordered map, and not in one with a hash: names come from files, and
-//! whoever writes a file can choose names whose hashes collide. An ordered map of n names compares
-//! at most some log n of them at a look-up, whatever they are.
+//! the list that is the one that is asked for, in one look-up, however long the list is. The crate
+//! stands on `indexmap`.
 #![tactic(auto)]
 
 ghost use Rattle.std.specs.Prelude.{◌≡◌, IfOk, OnOk, map};
 ghost use Rattle.gn_names.specs.First.{first_of, AreFirst, NotesFirst};
 
 use gn_memory::Memory;
+use indexmap::IndexMap;
 use std::alloc::Global;
-use std::collections::BTreeMap;
 use std::marker::Model;
 
 /// A list of names, some of which may be equal.
 #[derive(Drop)]
 pub struct Names<'a> {
     list: Vec<&'a str>,
-    places: BTreeMap<&'a str, usize>,
+    places: IndexMap<&'a str, usize>,
 }
 
 impl<'a> Model for Names<'a> {
@@ -36,7 +33,7 @@ impl<'a> Model for Names<'a> {
 
 /// Notes where the name stands, unless an equal one stands earlier.
 fn note_first<'a>(
-    places: &mut BTreeMap<&'a str, usize>,
+    places: &mut IndexMap<&'a str, usize>,
     name: &'a str,
     place: usize,
 ) -> Result<(), Memory>
@@ -50,10 +47,10 @@ fn note_first<'a>(
 }
 
 /// Where each name of the list stands for the first time.
-fn first_places<'a>(alloc: Global, list: &[&'a str]) -> Result<BTreeMap<&'a str, usize>, Memory>
+fn first_places<'a>(alloc: Global, list: &[&'a str]) -> Result<IndexMap<&'a str, usize>, Memory>
     ensures { IfOk result (λ places. AreFirst places (map (λ n. n.now) list.now)) }
 {
-    let mut places = BTreeMap::new(alloc);
+    let mut places = IndexMap::with_capacity(alloc, list.len())?;
     let mut place: usize = 0;
     for name in list {
         note_first(&mut places, name, place)?;
