@@ -4,7 +4,7 @@ use Rattle.gn_io.specs.Files.{absent, too_long}
 use Rattle.gn_app.specs.declared.status.Status.TheVariants.{TreeForm}
 use Rattle.gn_app.specs.Status.{code_of}
 use Rattle.gn_app.specs.Command.{eval, check, help, Spells, Misfits, files_of}
-use Rattle.gn_app.specs.Ending.{done, misused, no_file, misformed, overlong, said_of, line_of}
+use Rattle.gn_app.specs.Ending.{done, misused, no_file, no_json, overlong, said_of, line_of}
 use Rattle.gn_app.specs.Job.{Leads, writing, help_text}
 use Rattle.gn_app.specs.Outcome.{AsksFor, IsLastAsked, the_tree}
 
@@ -36,8 +36,8 @@ asks_for_both = refl
 line_of_a_word : option_map line_of (said_of (misused (Some (codes "65")))) ≡ Some (codes "geonodes: usage: unexpected 65\n")
 line_of_a_word = refl
 
-line_of_a_rule : option_map line_of (said_of (misformed 5 (codes "/nodes/0"))) ≡ Some (codes "geonodes: tree form: F5 at /nodes/0\n")
-line_of_a_rule = refl
+line_of_no_json : option_map line_of (said_of no_json) ≡ Some (codes "geonodes: tree text\n")
+line_of_no_json = refl
 
 nothing_is_said : said_of done ≡ None
 nothing_is_said = refl

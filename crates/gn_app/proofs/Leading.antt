@@ -51,16 +51,16 @@ step_same (key k) (key l) e = ap key ((bytes_eq-Decides k l).0 (sym (is_eq-slice
 step_same (index i) (key l) e = cc
 step_same (key k) (index j) e = cc
 
+more_same : (s t : Step) (p q : Pointer) (o : Ordering) → (pointer_cmp p q ≡ Equal → p ≡ q) → step_cmp s t ≡ o → ordering_then o (pointer_cmp p q) ≡ Equal → s ∷ p ≡ t ∷ q
+more_same s t p q Less rest f e = cc
+more_same s t p q Greater rest f e = cc
+more_same s t p q Equal rest f e = rw (step_same s t f, rest e) refl
+
 place_same : (p q : Pointer) → pointer_cmp p q ≡ Equal → p ≡ q
 place_same [] [] e = refl
 place_same [] (t ∷ q) e = cc
 place_same (s ∷ p) [] e = cc
-place_same (s ∷ p) (t ∷ q) e = tied (step_cmp s t) refl e
-  where
-    tied : (o : Ordering) → step_cmp s t ≡ o → ordering_then o (pointer_cmp p q) ≡ Equal → s ∷ p ≡ t ∷ q
-    tied Less f e = cc
-    tied Greater f e = cc
-    tied Equal f e = rw (step_same s t f, place_same p q e) refl
+place_same (s ∷ p) (t ∷ q) e = more_same s t p q (step_cmp s t) (place_same p q) refl e
 
 neither : (o : Ordering) → is_gt o ≡ false → is_gt (ordering_reverse o) ≡ false → o ≡ Equal
 neither Less e f = cc
@@ -95,7 +95,7 @@ keeps_or_breaks bytes t rule text h (pointer, e, inr (d, t', r, fit, from, n, na
     let same : t' ≡ t = some_same (tree_from d) from (ap tree_from (one_value bytes d h.0 fit.0 h.1.0) ∙ h.2) in
     h.3 r pointer (subst (λ x. IsBrokenAt x r pointer) same named.first.0)
 
-rule_numbered : ℕ → Rule
+abbrev rule_numbered : ℕ → Rule
 rule_numbered n = if n == 2 then Names else (if n == 3 then Links else (if n == 4 then Kinds else (if n == 5 then Order else (if n == 6 then Height else Count))))
 
 numbered : (r : Rule) → rule_numbered (number_of r) ≡ r
@@ -119,8 +119,8 @@ one_place bytes rule rule' text text' (p, e, inl (d, misfit, n)) (p', e', inl (d
     let same = one_value bytes d' d misfit'.0 misfit.0 in
     let pointer : p ≡ p' = first_is_one (BreaksForm d) p p' misfit.1 (subst (λ x. IsFirst (BreaksForm x) (Some p')) same misfit'.1) in
     (n ∙ sym n', e ∙ ap pointer_text pointer ∙ sym e')
-one_place bytes rule rule' text text' (p, e, inl (d, misfit, n)) (p', e', inr (d', t', r', fit, rest)) = absurd (fits_or_not bytes d' d p fit misfit)
-one_place bytes rule rule' text text' (p, e, inr (d, t, r, fit, rest)) (p', e', inl (d', misfit, n')) = absurd (fits_or_not bytes d d' p' fit misfit)
+one_place bytes rule rule' text text' (p, e, inl (d, misfit, n)) (p', e', inr (d', t', r', fit, from', number', named')) = absurd (fits_or_not bytes d' d p fit misfit)
+one_place bytes rule rule' text text' (p, e, inr (d, t, r, fit, from, number, named)) (p', e', inl (d', misfit, n')) = absurd (fits_or_not bytes d d' p' fit misfit)
 one_place bytes rule rule' text text' (p, e, inr (d, t, r, fit, from, n, named)) (p', e', inr (d', t', r', fit', from', n', named')) =
     let same : t' ≡ t = some_same (tree_from d) (ap tree_from (one_value bytes d d' fit.0 fit'.0) ∙ from') from in
     let also : IsNamed t r' p' = subst (λ x. IsNamed x r' p') same named' in
@@ -129,7 +129,7 @@ one_place bytes rule rule' text text' (p, e, inr (d, t, r, fit, from, n, named))
     (n ∙ ap number_of one ∙ sym n', e ∙ ap pointer_text pointer ∙ sym e')
 
 -- why a text is no tree
-WhyNot : List ℕ → Ending → Type 0
+abbrev WhyNot : List ℕ → Ending → Type 0
 WhyNot bytes e = ((e ≡ no_json) × (json bytes ≡ None)) ⊎ ((rule : ℕ) × (text : Text) × (e ≡ misformed rule text) × BreaksRule bytes rule text)
 
 why_not : (bytes : List ℕ) (e : Ending) → TextGives bytes (Err e) → WhyNot bytes e
@@ -150,7 +150,7 @@ no_value bytes d e f = cc
 
 no_value_breaks : (bytes : List ℕ) (rule : ℕ) (text : Text) → json bytes ≡ None → BreaksRule bytes rule text → ⊥
 no_value_breaks bytes rule text e (p, f, inl (d, misfit, n)) = no_value bytes d e misfit.0
-no_value_breaks bytes rule text e (p, f, inr (d, t, r, fit, rest)) = no_value bytes d e fit.0
+no_value_breaks bytes rule text e (p, f, inr (d, t, r, fit, from, n, named)) = no_value bytes d e fit.0
 
 no_tree : (bytes : List ℕ) (t : Tree) (e : Ending) → IsTree bytes t → WhyNot bytes e → ⊥
 no_tree bytes t e h (inl k) = no_value bytes h.0 k.1 h.1.0

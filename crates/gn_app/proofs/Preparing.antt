@@ -7,8 +7,8 @@ use Rattle.gn_kinds.specs.Row.{Text}
 use Rattle.gn_tree.specs.Trees.{Tree}
 use Rattle.gn_plain.specs.Geometry as plain
 use Rattle.gn_geom.specs.Meshes.{MeshArrays, plain_of}
-use Rattle.gn_origin.specs.Plans.{Plan, IsPlan, HasNoPlan}
-use Rattle.gn_origin.specs.Answers.{plan_of}
+use Rattle.gn_plans.specs.Plans.{Plan, IsPlan, HasNoPlan}
+use Rattle.gn_plans.specs.Answers.{plan_of}
 use Rattle.gn_elements.specs.Read.{Bad, mesh}
 use Rattle.gn_rows.proofs.Imports.{spelled_small}
 use Rattle.gn_plan_laws.proofs.Formed.{tree_form}
@@ -153,7 +153,7 @@ refused_eval : (t o : Text) (before now : Seen) (e : Ending) → TreeFails t bef
 refused_eval t o before now = refused_tree (eval t o) t before now refl refl (first_file t o) (λ P h. h) (lead_eval t o)
 
 unplanned : (t o : Text) (before now : Seen) → PlanFails t before now not_built → Unprepared (eval t o) before now not_built
-unplanned t o before now (bytes, had, tree, is, none) = record {
+unplanned t o before now (bytes, had, (tree, is, none)) = record {
   early = tt;
   asked = had.asked.asked ∙ one_name before.asked t;
   missed = had.asked.missed;

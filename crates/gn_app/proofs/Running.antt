@@ -1,5 +1,5 @@
 -- What a run of a command comes to.
-use Rattle.std.proofs.Common.{◌≡◌, ◌⊎◌, inl, inr, ℕ, ◌+◌, [], length, take, Option, Some, None, Result, Ok, Err, refl, sym, ap, subst, ◌∙◌, arith}
+use Rattle.std.proofs.Common.{◌≡◌, ◌⊎◌, inl, inr, ℕ, ◌+◌, List, [], length, take, Option, Some, None, Result, Ok, Err, refl, sym, ap, subst, ◌∙◌, arith}
 use Rattle.std.proofs.Math.Seq.{take-length}
 use Rattle.std.proofs.lemmas.List.{length-take-le}
 use Rattle.gn_io.specs.Outside.{stopped, Rose, with_bytes}
@@ -10,7 +10,7 @@ use Rattle.gn_kinds.specs.Row.{Text}
 use Rattle.gn_tree.specs.Trees.{Tree}
 use Rattle.gn_geom.specs.Meshes.{plain_of}
 use Rattle.gn_geom.specs.Geometries.{GeometryArrays, plain_geometry}
-use Rattle.gn_origin.specs.Answers.{plan_of}
+use Rattle.gn_plans.specs.Answers.{plan_of}
 use Rattle.gn_obj.specs.Pages.{TakesText}
 use Rattle.gn_obj.specs.Written.{obj_text}
 use Rattle.gn_app.specs.declared.load.Prepared.{Prepared}

@@ -1,5 +1,5 @@
 -- What names give, where a shelf tells.
-use Rattle.std.proofs.Common.{◌≡◌, ℕ, ◌<◌, ◌≤◌, true, false, List, [], ◌∷◌, length, Option, Some, None, refl, sym, subst, arith, IfSome}
+use Rattle.std.proofs.Common.{◌≡◌, ℕ, ◌<◌, ◌≤◌, true, false, List, [], ◌∷◌, ◌++◌, length, Option, Some, None, refl, sym, subst, arith, IfSome}
 use Rattle.std.specs.Prelude.{IsSomeAnd, bytes_eq, nat_le}
 use Rattle.gn_io.specs.Outside.{Files, Names, with_name}
 use Rattle.gn_io.specs.Files.{FileAnswer, whole, absent, too_long, file_answer, file_within}
@@ -58,12 +58,8 @@ told_more (Some files) None now name P e h = tt
 told_more (Some files) (Some before) None name P e h = tt
 told_more (Some files) (Some before) (Some now) name P e h =
     let Q : Names → Type 0 = λ names. P (file_answer files names) in
-    let same : now ≡ with_one before name = cc in
+    let same : now ≡ before ++ name ∷ [] = cc in
     rw same (subst Q (sym (drop-append_seam before (name ∷ []))) h)
-  where
-    abbrev with_one : Names → Text → Names
-    with_one names x = names ++ x ∷ []
-
 whole_within : (limit : ℕ) (bytes : List ℕ) (file : Option (List ℕ)) → length bytes ≤ limit → file ≡ Some bytes → file_within limit file ≡ whole bytes
 whole_within limit bytes file h e =
     let fits : nat_le (length bytes) limit ≡ true = grind (arith, nat_tests) in

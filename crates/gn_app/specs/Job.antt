@@ -11,7 +11,7 @@ use Rattle.gn_rules.specs.Rules.{KeepsRules}
 use Rattle.gn_json.specs.Answers.{json, FirstMisfit}
 use Rattle.gn_json.specs.Exact.{tree_from}
 use Rattle.gn_read.specs.Answers.{IsMisfitAt, IsRuleAt}
-use Rattle.gn_origin.specs.Plans.{Plan, IsPlan, HasNoPlan}
+use Rattle.gn_plans.specs.Plans.{Plan, IsPlan, HasNoPlan}
 use Rattle.gn_elements.specs.Read.{Bad, mesh}
 use Rattle.gn_app.specs.Command.{Command, eval, check, help, version}
 use Rattle.gn_app.specs.Ending.{Ending, no_file, no_json, misformed, bad_line, overlong, not_built}

@@ -13,13 +13,13 @@ use Rattle.gn_check.specs.Answers.{tree_in}
 use Rattle.gn_rules.specs.Rules.{KeepsRules}
 use Rattle.gn_meaning.specs.Forms.{HasForm}
 use Rattle.gn_rows.specs.Limits.{is_large}
-use Rattle.gn_origin.specs.Plans.{Plan, IsPlan, HasNoPlan}
+use Rattle.gn_plans.specs.Plans.{Plan, IsPlan, HasNoPlan}
 use Rattle.gn_elements.specs.Read.{mesh}
 use Rattle.gn_app.specs.declared.ending.Ending.{Ending}
 use Rattle.gn_app.specs.declared.load.LoadedTree.{LoadedTree}
 use Rattle.gn_app.specs.declared.load.PlannedTree.{PlannedTree}
 use Rattle.gn_app.specs.declared.load.Prepared.{Prepared}
-use Rattle.gn_origin.specs.Answers.{plan_of}
+use Rattle.gn_plans.specs.Answers.{plan_of}
 use Rattle.gn_app.specs.Seen.{ending_of}
 use Rattle.gn_app.specs.Command.{Command, eval}
 use Rattle.gn_app.specs.Ending as endings

@@ -10,7 +10,7 @@ ghost use Rattle.gn_app.specs.Seen.{command_of, ending_of};
 use crate::ending::Ending;
 use crate::files::{load_tree, prepare};
 use crate::message::tell;
-use crate::moving::{made, runs_a_node};
+use crate::moving::{made, note_runs};
 use crate::request::{Request, read_request};
 use crate::status::Status;
 use gn_io::{Gate, Put, Shelf, Sink};
@@ -48,13 +48,11 @@ fn run_eval<'a, H: Shelf, K: Sink, L>(
         Ok(prepared) => prepared,
         Err(ending) => return ending,
     };
-    let runs = runs_a_node(&prepared.plan);
+    let plan = prepared.plan;
     let Ok(geometry) = made(alloc, prepared) else {
         return Ending::NoMemory;
     };
-    if runs {
-        meter.note_run();
-    }
+    note_runs(meter, plan);
     Ending::of_put(write_obj(&geometry, out))
 }
 

@@ -1,6 +1,6 @@
 use gn_check::GoodTree;
 use gn_geom::Mesh;
-use gn_origin::Plan;
+use gn_plans::Plan;
 
 /// A well-formed tree, and the bytes of its text.
 #[derive(Drop)]

@@ -1,14 +1,15 @@
-ghost use Rattle.std.specs.Prelude.{◌≡◌, IfOk, map};
+ghost use Rattle.std.specs.Prelude.{◌≡◌, ◌≤◌, ◌+◌, ◌^◌, IfOk, map, true};
 ghost use Rattle.gn_geom.specs.Geometries.{plain_geometry};
 ghost use Rattle.gn_geom.specs.Meshes.{plain_of};
-ghost use Rattle.gn_origin.specs.Answers.{plan_of};
+ghost use Rattle.gn_plans.specs.Answers.{plan_of};
 ghost use Rattle.gn_plan_laws.specs.Made.{made as plain_made, runs_of};
 ghost use Rattle.gn_rows.specs.Moves as spec;
 
 use crate::load::Prepared;
 use gn_geom::{Geometry, Mesh};
 use gn_memory::Memory;
-use gn_origin::Plan;
+use gn_plans::Plan;
+use gn_shared::Meter;
 use gn_value::V3;
 use std::alloc::Global;
 
@@ -41,13 +42,16 @@ fn moved_mesh(alloc: Global, mut mesh: Mesh, to: Option<V3>, by: V3) -> Result<M
     Ok(mesh)
 }
 
-/// Whether a node runs for the plan.
-pub(crate) fn runs_a_node(plan: &Plan) -> bool
-    ensures { if result then runs_of (plan_of plan.now) ≡ 1 else runs_of (plan_of plan.now) ≡ 0 }
+/// Notes the run of the node that moves, where the plan has one.
+pub(crate) fn note_runs<L>(meter: &mut Meter<L>, plan: Plan)
+    requires { meter.old.runs ≤ 2 ^ 62 }
+    ensures runs { meter.new.runs ≡ meter.old.runs + runs_of (plan_of plan) }
+    ensures copies { meter.new.copies ≡ meter.old.copies }
 {
     match plan {
-        Plan::Move { .. } => true,
-        _ => false,
+        Plan::Move { .. } => meter.note_run(),
+        Plan::Empty => {}
+        Plan::Input => {}
     }
 }
 
@@ -59,10 +63,7 @@ pub(crate) fn made(alloc: Global, prepared: Prepared) -> Result<Geometry, Memory
     match plan {
         Plan::Empty => Geometry::empty(alloc),
         Plan::Input => Ok(Geometry { mesh }),
-        Plan::Move {
-            selected: false,
-            ..
-        } => Ok(Geometry { mesh }),
+        Plan::Move { selected: false, .. } => Ok(Geometry { mesh }),
         Plan::Move {
             selected: true,
             to,

@@ -334,7 +334,8 @@ fn a_sum_past_the_range_stops_at_its_end(rt: HostRuntime) -> Result<(), Fail> {
 
 const EMPTY_TREE: &str = r#"{"format":1,"nodes":[]}"#;
 
-const INPUT_TREE: &str = r#"{"format":1,"nodes":[],"output":{"from":"input","socket":"geometry"}}"#;
+const INPUT_TREE: &str =
+    r#"{"format":1,"nodes":[],"output":{"from":"input","socket":"geometry"}}"#;
 
 /// Points go to (1, 2, 3) and then by (0, 0, 1).
 const PLACING_TREE: &str =
@@ -406,15 +407,7 @@ fn well_formed_trees_are_checked_alone(rt: HostRuntime) -> Result<(), Fail> {
     compare(&rt, &seen, Status::WriteFault, "ok", said, 1, 0);
     for tree in [IMPORT_TREE, SWITCH_TREE].iter() {
         let seen = run_over(&rt, rt.alloc(), &EVAL, tree, ABSENT, 0, NONE, NONE)?;
-        compare(
-            &rt,
-            &seen,
-            Status::NotBuilt,
-            "",
-            "geonodes: not built\n",
-            1,
-            0,
-        );
+        compare(&rt, &seen, Status::NotBuilt, "", "geonodes: not built\n", 1, 0);
     }
     Ok(())
 }
@@ -445,7 +438,11 @@ fn trees_that_are_not_well_formed_are_told(rt: HostRuntime) -> Result<(), Fail> 
     let cases = [
         (deep.as_str(), Status::TreeText, text),
         ("{", Status::TreeText, text),
-        ("[]", Status::TreeForm, "geonodes: tree form: F1 at /\n"),
+        (
+            "[]",
+            Status::TreeForm,
+            "geonodes: tree form: F1 at /\n",
+        ),
         (
             FLOAT_FROM_NUMBER,
             Status::TreeForm,

@@ -3,5 +3,6 @@ pub mod Ways
 pub mod Inputs
 pub mod Demanding
 pub mod Standing
+pub mod Asked
 pub mod Planned
 pub mod Formed

@@ -12,7 +12,7 @@ use Rattle.gn_meaning.specs.Demand.{output_read, ListsDemand}
 use Rattle.gn_rows.specs.Carried.{Carried, a_geometry, of_constant}
 use Rattle.gn_rows.specs.Library.{library}
 use Rattle.gn_rows.specs.Moves.{moved_shape}
-use Rattle.gn_origin.specs.Plans.{Plan, no_mesh, the_input, a_move}
+use Rattle.gn_plans.specs.Plans.{Plan, no_mesh, the_input, a_move}
 
 -- ---- by the plan
 

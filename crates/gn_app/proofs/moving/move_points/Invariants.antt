@@ -1,4 +1,4 @@
-use Rattle.std.proofs.Common.{◌≡◌, ◌++◌, map, take, drop}
+use Rattle.std.proofs.Common.{◌≡◌, ◌++◌, map, take, drop, true}
 use Rattle.gn_rows.specs.Moves.{moved_point}
 use Rattle.gn_app.proofs.moving.move_points.Given as goal
 
