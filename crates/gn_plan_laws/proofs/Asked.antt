@@ -1,5 +1,5 @@
 -- A tree with a plan asks for what the plan says.
-use Rattle.std.proofs.Common.{◌≡◌, ◌≤◌, ℕ, List, [], ◌∷◌, ◌++◌, length, map, Option, Some, None, codes, refl, sym, ◌∙◌, ap, subst, arith}
+use Rattle.std.proofs.Common.{◌≡◌, ℕ, List, [], ◌∷◌, ◌++◌, Option, Some, None, codes, refl, sym, ◌∙◌, ap, subst, arith}
 use Rattle.std.specs.Prelude.{Bool, true, false, ◌&&◌, find, bytes_eq, option_map, option_and_then, if◌then◌else◌}
 use Rattle.std.specs.Option.{option_map_or}
 use Rattle.std.proofs.lemmas.Slice.Eq.{bytes_eq-Decides}
@@ -11,14 +11,14 @@ use Rattle.gn_kinds.specs.declared.row.DefaultValue.TheVariants.{Zero, Constant 
 use Rattle.gn_kinds.specs.Row.{Text}
 use Rattle.gn_kinds.specs.Table.{row_of_kind, table, values, functions, elsewhere, attributes, geometry_kinds, instance_kinds, groups}
 use Rattle.gn_names.specs.First.{first_of}
-use Rattle.gn_tree.specs.Trees.{Link, Input, constant, link, links, Named, Node, node, Settings, no_settings, and_setting, and_zone, Nodes, Tree}
+use Rattle.gn_tree.specs.Trees.{Link, Input, constant, link, links, Named, Node, node, no_settings, and_setting, and_zone, Tree}
 use Rattle.gn_rules.specs.Sockets.{ids, node_at, single}
 use Rattle.gn_rules.specs.Scopes.{Scope, tree_scope}
 use Rattle.gn_meaning.specs.Sites.{Site, the_tree, path_of, at_output, at_input, at_constant, a_value, a_leaf, its_position, no_geometry, Read, plain_read}
 use Rattle.gn_meaning.specs.Bodies.{kind_in, output_of}
 use Rattle.gn_meaning.specs.Reads.{input_reads, unwritten, link_read, node_reads, read_at, Run, a_node, part_at}
 use Rattle.gn_meaning.specs.Demand.{output_read}
-use Rattle.gn_meaning.specs.Origins.{origin_within, IsReadFrom}
+use Rattle.gn_meaning.specs.Origins.{IsReadFrom}
 use Rattle.gn_plans.specs.Plans.{Plan, no_mesh, the_input, a_move, written, truth_in, target_in, offset_in, leads_from, is_tree_input, move_by, plan_of_node, plan_of_link, plan_by, IsPlan}
 use Rattle.gn_plan_laws.specs.Asks.{Moves, AsksFor, gives_nothing, gives_input, gives_moved}
 
@@ -74,11 +74,13 @@ reads_written s inputs =
 reads_are : (s : Scope) (id kind : Text) (inputs : List Named) → kind ≡ codes "set_position" → node_reads s the_tree (node id kind no_settings inputs) ≡ reads_written s inputs
 unfolding reads_written row_of_kind table values functions elsewhere attributes geometry_kinds instance_kinds groups
 reads_are s id kind inputs e =
-    rw (e,
+    rw (
+      e,
       as_written s Geometry (unwritten (single Geometry) Zero) (find (λ x. bytes_eq (codes "geometry") x.name) inputs),
       as_written s Truth (unwritten (single Truth) (Written (truth true))) (find (λ x. bytes_eq (codes "selection") x.name) inputs),
       as_written s Vector (unwritten (single Vector) Position) (find (λ x. bytes_eq (codes "position") x.name) inputs),
-      as_written s Vector (unwritten (single Vector) Zero) (find (λ x. bytes_eq (codes "offset") x.name) inputs)) refl
+      as_written s Vector (unwritten (single Vector) Zero) (find (λ x. bytes_eq (codes "offset") x.name) inputs),
+    ) refl
 
 geometry_reads : (t : Tree) (default : List Read) (o : Option Input) → is_tree_input o ≡ true → reads_by (tree_scope t) Geometry default o ≡ plain_read (at_input the_tree 0) ∷ []
 unfolding reads_by
@@ -171,35 +173,41 @@ module _ (t : Tree) where
       let s : Scope = tree_scope t in
       let one = then_is (λ selected. option_and_then (λ to. option_map (λ by. a_move selected to by) (offset_in (written (codes "offset") inputs))) (target_in (written (codes "position") inputs))) (truth_in (written (codes "selection") inputs)) plan e in
       let two = then_is (λ to. option_map (λ by. a_move one.0 to by) (offset_in (written (codes "offset") inputs))) (target_in (written (codes "position") inputs)) plan one.2 in
-      let three = map_is (λ by. a_move one.0 two.0 by) (offset_in (written (codes "offset") inputs)) plan two.2 in
-      (one.0, two.0, three.0, sym three.2,
-      rw (geometry_reads t (unwritten (single Geometry) Zero) (written (codes "geometry") inputs) g,
-        truth_reads s (written (codes "selection") inputs) one.0 one.1,
-        target_reads s (written (codes "position") inputs) two.0 two.1,
-        offset_reads s (written (codes "offset") inputs) three.0 three.1) refl)
+      let three = map_is (λ by. a_move one.0 two.0 by) (offset_in (written (codes "offset") inputs)) plan two.2 in (
+        one.0,
+        two.0,
+        three.0,
+        sym three.2,
+        rw (
+          geometry_reads t (unwritten (single Geometry) Zero) (written (codes "geometry") inputs) g,
+          truth_reads s (written (codes "selection") inputs) one.0 one.1,
+          target_reads s (written (codes "position") inputs) two.0 two.1,
+          offset_reads s (written (codes "offset") inputs) three.0 three.1,
+        ) refl,
+      )
+
+  own_name : (n : ℕ) (id kind : Text) (inputs : List Named) → kind ≡ codes "set_position" → (own_run n (node id kind no_settings inputs)).kind.name ≡ codes "set_position"
+  unfolding own_run
+  own_name n id kind inputs is = is
+
+  own_reads : (n : ℕ) (id kind : Text) (inputs : List Named) → kind ≡ codes "set_position" → (own_run n (node id kind no_settings inputs)).reads ≡ reads_written (tree_scope t) inputs
+  unfolding own_run
+  own_reads n id kind inputs is = reads_are (tree_scope t) id kind inputs is
 
   node_asked : (l : Link) (plan : Plan) (n : ℕ) (x : Node) → output_read t ≡ link_read (tree_scope t) the_tree Geometry l → bytes_eq l.from (codes "input") ≡ false → bytes_eq l.socket (codes "geometry") ≡ true → first_of (ids t.nodes) l.from ≡ Some n → node_at t.nodes n ≡ Some x → plan_of_node x ≡ Some plan → AsksFor t plan
   node_asked l plan n (node id kind (and_setting y rest) inputs) out from socket first at e = cc
   node_asked l plan n (node id kind (and_zone a b c rest) inputs) out from socket first at e = cc
   node_asked l plan n (node id kind no_settings inputs) out from socket first at e =
-      let tests = if_some (bytes_eq kind (codes "set_position") && is_tree_input (written (codes "geometry") inputs)) (move_by inputs) plan e in
-      let both = both_true (bytes_eq kind (codes "set_position")) (is_tree_input (written (codes "geometry") inputs)) tests.0 in
-      let is : kind ≡ codes "set_position" = (bytes_eq-Decides kind (codes "set_position")).0 both.0 in
-      let read = all_read inputs plan both.1 tests.1 in
+      let named = if_some (bytes_eq kind (codes "set_position")) (if is_tree_input (written (codes "geometry") inputs) then move_by inputs else None) plan e in
+      let tests = if_some (is_tree_input (written (codes "geometry") inputs)) (move_by inputs) plan named.1 in
+      let is : kind ≡ codes "set_position" = (bytes_eq-Decides kind (codes "set_position")).0 named.0 in
+      let read = all_read inputs plan tests.0 tests.1 in
       let run : Run = own_run n (node id kind no_settings inputs) in
       let part : part_at t the_tree n ≡ Some (a_node run) = own_part n id kind inputs at in
       let there : output_read t ≡ plain_read (at_output the_tree n 0) = out ∙ link_to_node t l n id kind inputs from socket first at is in
       subst (AsksFor t) (sym read.3)
       (gives_moved the_tree n run read.0 read.1 read.2 (run_read (output_read t) n run part there) part
-      (moves run read.0 read.1 read.2 (named n id kind inputs is) (reads n id kind inputs is ∙ read.4)))
-    where
-      named : (n : ℕ) (id kind : Text) (inputs : List Named) → kind ≡ codes "set_position" → (own_run n (node id kind no_settings inputs)).kind.name ≡ codes "set_position"
-      unfolding own_run
-      named n id kind inputs is = is
-
-      reads : (n : ℕ) (id kind : Text) (inputs : List Named) → kind ≡ codes "set_position" → (own_run n (node id kind no_settings inputs)).reads ≡ reads_written (tree_scope t) inputs
-      unfolding own_run
-      reads n id kind inputs is = reads_are (tree_scope t) id kind inputs is
+      (moves run read.0 read.1 read.2 (own_name n id kind inputs is) (own_reads n id kind inputs is ∙ read.4)))
 
   link_asked : (l : Link) (plan : Plan) → output_read t ≡ link_read (tree_scope t) the_tree Geometry l → plan_of_link t.nodes l ≡ Some plan → AsksFor t plan
   link_asked l plan out e = by_input (leads_from (codes "input") l) refl e

@@ -1,16 +1,15 @@
 -- The nodes that a tree demands, where what it gives out comes from one run that reads no other.
-use Rattle.std.proofs.Common.{◌≡◌, ◌≢◌, ◌⊎◌, inl, inr, ◌↔◌, ℕ, zero, suc, pos, List, [], ◌∷◌, ◌++◌, Option, Some, None, refl, sym, ◌∙◌, ap, subst}
-use Rattle.std.specs.Prelude.{option_map, option_and_then}
+use Rattle.std.proofs.Common.{◌≡◌, inl, inr, ℕ, zero, suc, pos, List, [], ◌∷◌, ◌++◌, Option, Some, None, refl, sym, ◌∙◌, ap, subst}
+use Rattle.std.specs.Prelude.{option_and_then}
 use Rattle.gn_value.specs.declared.value.Value.TheVariants.{Int as int}
-use Rattle.gn_lazy.specs.declared.path.PathStep.{PathStep}
 use Rattle.gn_tree.specs.NodeKinds.{Kind}
 use Rattle.gn_tree.specs.Trees.{Tree}
 use Rattle.gn_node_set.specs.Paths.{Path}
-use Rattle.gn_node_set.specs.Meanings.{Has, AllDiffer, Role, Plain, Choice, Rows, first_read, then_read}
+use Rattle.gn_node_set.specs.Meanings.{Has, Plain, Rows, first_read, then_read}
 use Rattle.gn_meaning.specs.Sites.{a_value, Way, the_tree, into, plain_step, turn_step, Site, at_output, at_input, at_item, at_constant, nowhere, Read, plain_read}
 use Rattle.gn_meaning.specs.Bodies.{Body}
 use Rattle.gn_meaning.specs.Reads.{read_at, Run, Part, a_node, a_group, a_repeat, part_at, out_of, run_in, run_of}
-use Rattle.gn_meaning.specs.Denotation.{Given, Chooses, Gives}
+use Rattle.gn_meaning.specs.Denotation.{Given}
 use Rattle.gn_meaning.specs.Origins.{read_origin, output_origin, input_origin, turn_origin, first_origin, next_origin, origin_within, ComesFrom, IsReadFrom}
 use Rattle.gn_meaning.specs.Demand.{Wanted, a_root, an_input, a_case, a_group_output, a_group_input, a_result, a_first_item, a_later_item, an_item, Demanded, ListsDemand}
 use Rattle.gn_meaning.proofs.Options.{map_some, then_some, some_same}

@@ -1,19 +1,19 @@
 -- A tree that is read has its settings in nodes of their kinds.
 use Rattle.std.proofs.Common.{◌≡◌, Bool, true, false, List, [], ◌∷◌, Option, Some, None, codes, refl, sym, ◌∙◌, ap, subst}
-use Rattle.std.specs.Prelude.{◌&&◌, ◌||◌, bytes_eq, find, option_map, option_and_then, if◌then◌else◌}
+use Rattle.std.specs.Prelude.{◌&&◌, ◌||◌, bytes_eq, option_map, option_and_then, if◌then◌else◌}
 use Rattle.std.specs.Option.{option_map_or, option_or}
 use Rattle.std.specs.List.{list_all, list_any}
 use Rattle.std.proofs.lemmas.Slice.Eq.{bytes_eq-Decides}
 use Rattle.serde_json.specs.Data.{Data, null, boolean, number, string, array, object, Items, no_items, item, Members, no_members, member}
-use Rattle.serde_json.specs.Find.{get, as_bool, as_str, as_array, as_object}
+use Rattle.serde_json.specs.Find.{get, as_bool, as_array, as_object}
 use Rattle.gn_kinds.specs.Row as row
 use Rattle.gn_kinds.specs.Row.{Text, KindRow}
 use Rattle.gn_kinds.specs.Table.{table, values, functions, elsewhere, attributes, geometry_kinds, instance_kinds, groups, row_in, row_in_sections, row_of_kind}
 use Rattle.gn_form.specs.Constant.{constant_as}
 use Rattle.gn_form.specs.Form.{row_in_node}
-use Rattle.gn_tree.specs.Trees.{Named, Socket, of_kind, op, place, clamp, a_name as named_setting, file, value, of_group, Node, node, Settings, no_settings, and_setting, and_zone, Group, Tree}
+use Rattle.gn_tree.specs.Trees.{Socket, of_kind, op, place, clamp, a_name as named_setting, file, value, of_group, Node, node, Settings, no_settings, and_setting, Group, Tree}
 use Rattle.gn_tree.specs.Seen.{nodes_of}
-use Rattle.gn_json.specs.Exact.{both, text_under, inputs_under, kind_under, place_under, sockets_under, with_setting, with_settings, is_zone, a_zone, zone_from, settings_from, is_needed, a_node, node_from, settings_found, settings_of_value, nodes_found, nodes_of_value, nodes_from, nodes_under, a_group, group_from, groups_from, groups_under, output_under, format_under, a_tree, tree_from}
+use Rattle.gn_json.specs.Exact.{both, text_under, inputs_under, kind_under, place_under, sockets_under, with_setting, with_settings, is_zone, a_zone, zone_from, settings_from, is_needed, node_from, settings_found, settings_of_value, nodes_found, nodes_of_value, nodes_from, nodes_under, a_group, group_from, groups_from, groups_under, output_under, format_under, a_tree, tree_from}
 use Rattle.gn_meaning.specs.Forms.{NodeHasForm, SettingsHaveForm, NodesHaveForm, GroupsHaveForm, HasForm}
 use Rattle.gn_meaning.proofs.Options.{map_some, then_some, some_same}
 

@@ -1,21 +1,21 @@
 -- In a tree that keeps the rules a Set Position that is run reads four values.
-use Rattle.std.proofs.Common.{◌≡◌, ◌⊎◌, inl, inr, ℕ, zero, suc, List, [], ◌∷◌, ◌++◌, length, map, Option, Some, None, codes, refl, sym, ◌∙◌, ap, subst}
+use Rattle.std.proofs.Common.{◌≡◌, inl, inr, ℕ, List, [], length, map, Option, Some, None, codes, refl, sym, ◌∙◌, ap, subst}
 use Rattle.std.specs.Prelude.{Bool, true, false, bytes_eq, option_map, option_and_then, if◌then◌else◌}
 use Rattle.gn_kinds.specs.Row.{Text}
 use Rattle.gn_kinds.specs.Table.{row_of_kind, table, values, functions, elsewhere, attributes, geometry_kinds, instance_kinds, groups}
 use Rattle.gn_pointers.specs.Pointers.{key}
 use Rattle.gn_tree.specs.NodeKinds.{Kind}
-use Rattle.gn_tree.specs.Trees.{Named, Socket, Node, node, Settings, no_settings, and_setting, and_zone, Group, Tree, of_group}
-use Rattle.gn_rules.specs.Sockets.{Declared, is_zone, chosen, group_in, items_in, further, inputs_of, inputs_of_kind, input_of_row, one_of, node_at}
+use Rattle.gn_tree.specs.Trees.{Named, Node, node, Settings, no_settings, and_setting, and_zone, Group, Tree, of_group}
+use Rattle.gn_rules.specs.Sockets.{Declared, is_zone, group_in, items_in, further, inputs_of, inputs_of_kind, node_at}
 use Rattle.gn_rules.specs.Scopes.{Scope}
 use Rattle.gn_rules.specs.Things.{the_inputs}
 use Rattle.gn_rules.specs.Rules.{KeepsRules}
-use Rattle.gn_meaning.specs.Sites.{Way, the_tree, into, plain_step, turn_step, path_of}
+use Rattle.gn_meaning.specs.Sites.{Way, the_tree, into, path_of}
 use Rattle.gn_meaning.specs.Bodies.{Body, tree_body, body_in, body_at, kind_in}
-use Rattle.gn_meaning.specs.Reads.{default_of, node_reads, Run, Part, a_node, a_group, a_repeat, part_by, part_in, part_at}
+use Rattle.gn_meaning.specs.Reads.{default_of, node_reads, Run, a_node, a_group, a_repeat, part_by, part_in, part_at}
 use Rattle.gn_meaning.specs.Forms.{SettingsHaveForm, HasForm}
 use Rattle.gn_meaning.specs.There.{LeadsTo, to_the_tree, into_group, into_turn}
-use Rattle.gn_meaning.proofs.Options.{map_some, then_some, some_same}
+use Rattle.gn_meaning.proofs.Options.{map_some}
 use Rattle.gn_meaning.proofs.Parts.{further_zone, Holds, node_form}
 use Rattle.gn_meaning.proofs.Reached.{part}
 use Rattle.gn_meaning.proofs.Inputs.{AllSingle, InputsReached, inputs_reached, reads_once}

@@ -1,36 +1,36 @@
 -- What a tree with a plan gives out, and what it demands.
-use Rattle.std.proofs.Common.{◌≡◌, ◌≤◌, ◌+◌, inl, inr, ℕ, List, [], ◌∷◌, length, Option, Some, None, codes, refl, sym, ◌∙◌, ap, subst}
+use Rattle.std.proofs.Common.{◌≡◌, inl, inr, ℕ, List, [], ◌∷◌, Option, Some, None, codes, refl, sym, ◌∙◌, ap, subst}
 use Rattle.std.specs.Prelude.{slice_get, false}
 use Rattle.gn_value.specs.declared.vector.V3.{V3}
 use Rattle.gn_value.specs.declared.value.Value.{Value}
 use Rattle.gn_value.specs.declared.value.Value.TheVariants.{Truth as truth, Vector as vector}
-use Rattle.gn_plain.specs.Geometry.{Shape, Geometry, of_shape, empty}
+use Rattle.gn_plain.specs.Geometry.{Shape, of_shape, empty}
 use Rattle.gn_plain.specs.Contexts.{position}
 use Rattle.gn_plain.specs.Fields.{Expr, constant, input}
 use Rattle.gn_tree.specs.NodeKinds.{Kind}
 use Rattle.gn_tree.specs.Trees.{Tree}
 use Rattle.gn_rules.specs.Rules.{KeepsRules}
-use Rattle.gn_node_set.specs.Meanings.{Has, Answer, Role, Plain, answer_for, converted}
+use Rattle.gn_node_set.specs.Meanings.{Has, Answer, Plain, answer_for}
 use Rattle.gn_meaning.specs.Sites.{Way, the_tree, Site, at_output, at_input, at_constant, a_value, a_leaf, its_position, no_geometry, Read, plain_read}
 use Rattle.gn_meaning.specs.Reads.{read_at, Run, a_node, part_at}
 use Rattle.gn_meaning.specs.Forms.{HasForm}
-use Rattle.gn_meaning.specs.Denotation.{Given, done_for, StandsAt}
+use Rattle.gn_meaning.specs.Denotation.{Given, StandsAt}
 use Rattle.gn_meaning.specs.Demand.{output_read}
 use Rattle.gn_meaning.specs.Origins.{IsReadFrom}
 use Rattle.gn_plans.specs.Plans.{Plan, IsPlan}
 use Rattle.gn_plan_laws.specs.Asks.{Carries, MovesTo, Moves, AsksFor, gives_nothing, gives_input, gives_moved}
-use Rattle.gn_rows.specs.Carried.{a_geometry, a_field, of_constant, field_through}
+use Rattle.gn_rows.specs.Carried.{a_geometry, a_field, field_through}
 use Rattle.gn_rows.specs.Moves.{moved_shape, IsWorth, IsTarget}
 use Rattle.gn_rows.specs.Limits.{is_large}
 use Rattle.gn_rows.proofs.Constants.{through_links}
-use Rattle.gn_rows.proofs.Moving.{moving_row, only_shape}
+use Rattle.gn_rows.proofs.Moving.{moving_row}
 use Rattle.gn_plan_laws.specs.Made.{made, runs_of, no_sources, Value as Carried, rows, given_with, Denotes, CountsDemand}
 use Rattle.gn_plan_laws.proofs.Reading.{Inside, inside, Reads, reads_value, reads_site, AllRead}
-use Rattle.gn_plan_laws.proofs.Ways.{Opens, Fits, out_fits}
+use Rattle.gn_plan_laws.proofs.Ways.{Fits, out_fits}
 use Rattle.gn_plan_laws.proofs.Inputs.{four_read}
 use Rattle.gn_plan_laws.proofs.Asked.{plan_asked}
 use Rattle.gn_plan_laws.proofs.Standing.{four_reads, output_stands}
-use Rattle.gn_plan_laws.proofs.Demanding.{IsAtHand, EndsAt, OneOrNone, demands_none, demands_one, root_opens}
+use Rattle.gn_plan_laws.proofs.Demanding.{EndsAt, OneOrNone, demands_none, demands_one, root_opens}
 
 plain_kind : (kind : Kind) → kind.name ≡ codes "set_position" → rows.role kind ≡ Plain
 plain_kind kind e = rw e refl

@@ -1,9 +1,8 @@
 -- What an input reads, by the value of its origin.
-use Rattle.std.proofs.Common.{◌≡◌, ◌++◌, ◌≤◌, ℕ, List, [], ◌∷◌, Option, Some, None, refl, sym, ◌∙◌, ap, subst, arith}
+use Rattle.std.proofs.Common.{◌≡◌, ◌++◌, ◌≤◌, ℕ, List, [], ◌∷◌, Some, refl, sym, ◌∙◌, ap, subst, arith}
 use Rattle.std.specs.Prelude.{max, option_map}
 use Rattle.gn_tree.specs.NodeKinds.{Kind}
 use Rattle.gn_tree.specs.Trees.{Tree}
-use Rattle.gn_node_set.specs.Lists.{all_of}
 use Rattle.gn_node_set.specs.Meanings.{Rows, converted}
 use Rattle.gn_meaning.specs.Sites.{Site, Read, plain_read}
 use Rattle.gn_meaning.specs.Denotation.{Given, read_value, read_values, value_within, StandsAt}

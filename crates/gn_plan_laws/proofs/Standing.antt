@@ -1,12 +1,12 @@
 -- What stands at the output of a run that reads values which are known.
-use Rattle.std.proofs.Common.{◌≡◌, ℕ, zero, suc, List, [], ◌∷◌, length, Option, Some, None, refl, sym, ◌∙◌, ap, subst, arith}
+use Rattle.std.proofs.Common.{◌≡◌, ℕ, suc, List, [], ◌∷◌, length, Some, refl, ◌∙◌, ap, arith}
 use Rattle.std.specs.Prelude.{option_map, option_and_then, slice_get}
 use Rattle.gn_tree.specs.NodeKinds.{Kind}
 use Rattle.gn_tree.specs.Trees.{Tree}
-use Rattle.gn_node_set.specs.Meanings.{Has, Role, Plain, Choice, no_case, Rows, selected}
+use Rattle.gn_node_set.specs.Meanings.{Plain, no_case, Rows}
 use Rattle.gn_meaning.specs.Sites.{Way, at_output, Read}
 use Rattle.gn_meaning.specs.Reads.{read_at, Run, a_node, part_at}
-use Rattle.gn_meaning.specs.Denotation.{Given, read_values, choice_by, choice_in, done_for, run_done, run_output, output_value, value_within, StandsAt}
+use Rattle.gn_meaning.specs.Denotation.{Given, read_values, choice_in, done_for, run_done, output_value, value_within, StandsAt}
 use Rattle.gn_plan_laws.proofs.Reading.{AllRead, all_read}
 
 -- ---- four reads

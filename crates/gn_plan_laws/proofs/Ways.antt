@@ -1,5 +1,5 @@
 -- The sites that a tree brings stand in lists that ways lead to: into group nodes without a turn, into repeats by one.
-use Rattle.std.proofs.Common.{◌≡◌, ◌⊎◌, inl, inr, ℕ, zero, suc, List, [], ◌∷◌, ◌++◌, map, Option, Some, None, refl, sym, ◌∙◌, ap, subst}
+use Rattle.std.proofs.Common.{◌≡◌, ◌⊎◌, inl, inr, ℕ, zero, suc, List, [], ◌∷◌, ◌++◌, map, Option, Some, None, refl, sym, ap, subst}
 use Rattle.std.specs.Prelude.{Bool, true, false, find, bytes_eq, codes, option_map, option_and_then, if◌then◌else◌}
 use Rattle.std.specs.Option.{option_map_or}
 use Rattle.gn_kinds.specs.declared.row.SocketKind.{SocketKind}
@@ -14,7 +14,7 @@ use Rattle.gn_rules.specs.Scopes.{Scope, source}
 use Rattle.gn_names.specs.First.{first_of}
 use Rattle.gn_node_set.specs.Meanings.{Has, Role, Plain, Switch, File, Zone, Choice, Rows, head_of, tail_of, member, chosen, one_case, all_cases, no_case, first_read, then_read}
 use Rattle.gn_meaning.specs.Sites.{Way, the_tree, into, plain_step, turn_step, Site, at_output, at_input, at_item, at_constant, nowhere, a_value, default_at, Read, plain_read}
-use Rattle.gn_meaning.specs.Bodies.{Body, body_in, body_at, kind_in}
+use Rattle.gn_meaning.specs.Bodies.{Body, body_in, body_at}
 use Rattle.gn_meaning.specs.Reads.{number_in, link_site, read_from, link_read, input_reads, unwritten, socket_reads, reads_of, default_of, node_reads, given_out, read_at, Run, Part, a_node, a_group, a_repeat, part_by, part_in, part_at, out_of, run_in, run_of}
 use Rattle.gn_meaning.specs.Denotation.{Given}
 use Rattle.gn_meaning.specs.Demand.{Wanted, a_root, an_input, a_case, a_group_output, a_group_input, a_result, a_first_item, a_later_item, an_item}

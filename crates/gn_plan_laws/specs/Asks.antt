@@ -45,4 +45,3 @@ module _ (t : Tree) where
     gives_nothing : IsReadFrom t (output_read t) (plain_read (at_constant no_geometry)) → AsksFor no_mesh
     gives_input : ReadsInput (output_read t) → AsksFor the_input
     gives_moved : (way : Way) (n : ℕ) (run : Run) (selected : Bool) (to : Option V3) (by : V3) → IsReadFrom t (output_read t) (plain_read (at_output way n 0)) → part_at t way n ≡ Some (a_node run) → Moves run selected to by → AsksFor (a_move selected to by)
-
