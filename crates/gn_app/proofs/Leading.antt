@@ -1,10 +1,10 @@
 -- The files lead a command to one job or one end.
-use Rattle.std.proofs.Common.{◌≡◌, ◌⊎◌, inl, inr, ℕ, ◌<◌, ◌≤◌, true, false, Bool, List, [], ◌∷◌, Option, Some, None, Result, Ok, Err, refl, sym, ap, ◌∙◌, subst, arith}
+use Rattle.std.proofs.Common.{◌≡◌, ◌⊎◌, inl, inr, ℕ, ◌<◌, ◌≤◌, false, List, [], ◌∷◌, Option, Some, None, Result, Ok, Err, refl, sym, ap, ◌∙◌, subst, arith}
 use Rattle.std.specs.declared.cmp.Ordering.{Ordering}
 use Rattle.std.specs.declared.cmp.Ordering.TheVariants.{Less, Equal, Greater}
 use Rattle.std.specs.Ordering.{is_eq, is_gt, ordering_reverse, ordering_then, nat_cmp}
-use Rattle.std.specs.Prelude.{bytes_eq, ◌==◌, if◌then◌else◌}
-use Rattle.std.specs.Cmp.Lexicographic.{slice_cmp, lists_total}
+use Rattle.std.specs.Prelude.{◌==◌, if◌then◌else◌}
+use Rattle.std.specs.Cmp.Lexicographic.{lists_total}
 use Rattle.std.specs.Cmp.{nat_cmp_is}
 use Rattle.std.proofs.lemmas.Bool.{cases_lt}
 use Rattle.std.proofs.lemmas.Map.Text.{is_eq-slice_cmp}
@@ -23,11 +23,9 @@ use Rattle.gn_rules.specs.Number.{number_of}
 use Rattle.gn_rules.specs.Rules.{IsNamed, IsBrokenAt}
 use Rattle.gn_json.specs.Answers.{json, FirstMisfit}
 use Rattle.gn_json.specs.Exact.{tree_from}
-use Rattle.gn_read.specs.Answers.{IsMisfitAt, IsRuleAt}
 use Rattle.gn_app.specs.Command.{Command, eval, check, help, version}
 use Rattle.gn_app.specs.Ending.{Ending, done, misused, no_file, unreadable, unwritable, no_json, misformed, bad_line, overlong, not_built, no_memory}
-use Rattle.gn_app.specs.Job.{Job, IsTree, BreaksRule, TextGives, TreeGiven, TreeLeads, checked, with_mesh, mesh_given, Giving, Leads, tree_limit, input_limit}
-use Rattle.gn_app.specs.Run.{ending_for}
+use Rattle.gn_app.specs.Job.{Job, IsTree, BreaksRule, TextGives, TreeGiven, TreeLeads, checked, mesh_given, Giving, Leads, tree_limit, input_limit}
 
 -- ---- the first pointer is one
 

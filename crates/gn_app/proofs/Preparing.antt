@@ -1,13 +1,13 @@
 -- What reading the files of a command comes to.
-use Rattle.std.proofs.Common.{◌≡◌, ◌⊎◌, inl, inr, ℕ, ◌≤◌, Bool, true, false, cond, List, [], ◌∷◌, length, take, Option, Some, None, Result, Ok, Err, refl, sym, ap, subst, ◌∙◌, arith, IfSome, append_assoc, append-nil}
-use Rattle.std.specs.Prelude.{IsSomeAnd, bytes_eq}
+use Rattle.std.proofs.Common.{◌≡◌, ◌⊎◌, inl, inr, ℕ, ◌≤◌, Bool, true, false, cond, List, [], ◌∷◌, length, take, Option, Some, None, Result, Ok, Err, refl, sym, ap, subst, ◌∙◌, arith, append_assoc, append-nil}
+use Rattle.std.specs.Prelude.{bytes_eq}
 use Rattle.gn_io.specs.Outside.{Files, Names, with_name, Rose}
 use Rattle.gn_io.specs.Files.{FileAnswer, whole, absent, too_long}
 use Rattle.gn_kinds.specs.Row.{Text}
 use Rattle.gn_tree.specs.Trees.{Tree}
 use Rattle.gn_plain.specs.Geometry as plain
 use Rattle.gn_geom.specs.Meshes.{MeshArrays, plain_of}
-use Rattle.gn_plans.specs.Plans.{Plan, IsPlan, HasNoPlan}
+use Rattle.gn_plans.specs.Plans.{Plan, IsPlan}
 use Rattle.gn_plans.specs.Answers.{plan_of}
 use Rattle.gn_elements.specs.Read.{Bad, mesh}
 use Rattle.gn_rows.proofs.Imports.{spelled_small}
@@ -18,10 +18,10 @@ use Rattle.gn_app.specs.declared.ending.Ending as rust
 use Rattle.gn_app.specs.Seen.{ending_of}
 use Rattle.gn_app.specs.Command.{Command, eval, check, files_of}
 use Rattle.gn_app.specs.Ending.{Ending, done, misused, no_file, unreadable, unwritable, no_json, misformed, bad_line, overlong, not_built, no_memory}
-use Rattle.gn_app.specs.Job.{Job, evaluation, writing, ok_text, IsTree, TextGives, TreeGiven, TreeLeads, with_mesh, mesh_given, mesh_or_bad, Giving, Leads, tree_limit, input_limit}
-use Rattle.gn_app.specs.Outcome.{Seen, with_names, the_tree, the_input, files_until, name_of, IsLastAsked, IsOverlong}
+use Rattle.gn_app.specs.Job.{writing, ok_text, IsTree, TreeGiven, with_mesh, mesh_given, mesh_or_bad, Giving, Leads, tree_limit, input_limit}
+use Rattle.gn_app.specs.Outcome.{Seen, with_names, the_tree, the_input, files_until, name_of, IsLastAsked}
 use Rattle.gn_app.specs.Run.{WhereTold, Told}
-use Rattle.gn_app.specs.Load.{Goes, Asked, Missed, Tried, IsWhole, IsLong, Had, TreeFails, PlanFails, IsPlanned, InputFails, OwnFails, OwnPrepared, LeadsAway, Unprepared, IsPrepared, Prepares}
+use Rattle.gn_app.specs.Load.{Goes, IsWhole, IsLong, Had, TreeFails, PlanFails, IsPlanned, InputFails, OwnFails, OwnPrepared, LeadsAway, Unprepared, IsPrepared, Prepares}
 use Rattle.gn_app.proofs.Telling.{same_bytes, where_both, where_told, Gives, given_whole, given_long, given_absent, given_beside}
 
 -- ---- names

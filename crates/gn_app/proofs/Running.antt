@@ -1,5 +1,5 @@
 -- What a run of a command comes to.
-use Rattle.std.proofs.Common.{◌≡◌, ◌⊎◌, inl, inr, ℕ, ◌+◌, List, [], length, take, Option, Some, None, Result, Ok, Err, refl, sym, ap, subst, ◌∙◌, arith}
+use Rattle.std.proofs.Common.{◌≡◌, ℕ, ◌+◌, List, [], length, take, Result, Ok, Err, refl, sym, ap, ◌∙◌, arith}
 use Rattle.std.proofs.Math.Seq.{take-length}
 use Rattle.std.proofs.lemmas.List.{length-take-le}
 use Rattle.gn_io.specs.Outside.{stopped, Rose, with_bytes}
@@ -15,7 +15,7 @@ use Rattle.gn_obj.specs.Pages.{TakesText}
 use Rattle.gn_obj.specs.Written.{obj_text}
 use Rattle.gn_app.specs.declared.load.Prepared.{Prepared}
 use Rattle.gn_app.specs.Seen.{put_ending}
-use Rattle.gn_app.specs.Command.{Command, eval, check, help, version, files_of}
+use Rattle.gn_app.specs.Command.{Command, check, help, version, files_of}
 use Rattle.gn_app.specs.Ending.{Ending, done, misused, no_file, unreadable, unwritable, no_json, misformed, bad_line, overlong, not_built, no_memory}
 use Rattle.gn_app.specs.Job.{Job, evaluation, writing, Giving, Leads, ok_text, help_text, version_text, IsTree, tree_limit}
 use Rattle.gn_plan_laws.specs.Made.{made, runs_of}

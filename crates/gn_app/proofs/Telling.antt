@@ -60,6 +60,7 @@ told_more (Some files) (Some before) (Some now) name P e h =
     let Q : Names → Type 0 = λ names. P (file_answer files names) in
     let same : now ≡ before ++ name ∷ [] = cc in
     rw same (subst Q (sym (drop-append_seam before (name ∷ []))) h)
+
 whole_within : (limit : ℕ) (bytes : List ℕ) (file : Option (List ℕ)) → length bytes ≤ limit → file ≡ Some bytes → file_within limit file ≡ whole bytes
 whole_within limit bytes file h e =
     let fits : nat_le (length bytes) limit ≡ true = grind (arith, nat_tests) in

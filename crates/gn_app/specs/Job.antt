@@ -1,5 +1,5 @@
 -- What there is to do, as the files say.
-use Rattle.std.specs.Prelude.{◌≡◌, ◌⊎◌, ℕ, List, Option, Some, None, Result, Ok, Err, codes}
+use Rattle.std.specs.Prelude.{◌≡◌, ◌⊎◌, ℕ, List, Some, None, Result, Ok, Err, codes}
 use Rattle.serde_json.specs.Data.{Data}
 use Rattle.gn_io.specs.Files.{FileAnswer, whole, absent, too_long}
 use Rattle.gn_kinds.specs.Row.{Text}

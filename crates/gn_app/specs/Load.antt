@@ -1,10 +1,7 @@
 -- What reading the files of a command does.
-use Rattle.std.specs.Prelude.{◌≡◌, ◌⊎◌, ◌<◌, ◌≤◌, ℕ, true, false, Bool, List, length, map, Option, Some, None, IfSome, IsSomeAnd, Result, Ok, Err, if◌then◌else◌}
-use Rattle.std.specs.Option.{option_map_or}
-use Rattle.serde_json.specs.Data.{Data}
-use Rattle.gn_io.specs.Outside.{Files, Names, Rose, with_name}
+use Rattle.std.specs.Prelude.{◌≡◌, ◌⊎◌, ◌<◌, ◌≤◌, ℕ, false, List, length, Option, Some, None, IfSome, IsSomeAnd, Result, Ok, Err}
+use Rattle.gn_io.specs.Outside.{Files, Rose, with_name}
 use Rattle.gn_kinds.specs.Row.{Text}
-use Rattle.gn_value.specs.declared.vector.V3.{V3}
 use Rattle.gn_tree.specs.Trees.{Tree}
 use Rattle.gn_plain.specs.Geometry.{of_shape}
 use Rattle.gn_geom.specs.Meshes.{MeshArrays, plain_of}
@@ -13,7 +10,7 @@ use Rattle.gn_check.specs.Answers.{tree_in}
 use Rattle.gn_rules.specs.Rules.{KeepsRules}
 use Rattle.gn_meaning.specs.Forms.{HasForm}
 use Rattle.gn_rows.specs.Limits.{is_large}
-use Rattle.gn_plans.specs.Plans.{Plan, IsPlan, HasNoPlan}
+use Rattle.gn_plans.specs.Plans.{IsPlan, HasNoPlan}
 use Rattle.gn_elements.specs.Read.{mesh}
 use Rattle.gn_app.specs.declared.ending.Ending.{Ending}
 use Rattle.gn_app.specs.declared.load.LoadedTree.{LoadedTree}
@@ -21,11 +18,11 @@ use Rattle.gn_app.specs.declared.load.PlannedTree.{PlannedTree}
 use Rattle.gn_app.specs.declared.load.Prepared.{Prepared}
 use Rattle.gn_plans.specs.Answers.{plan_of}
 use Rattle.gn_app.specs.Seen.{ending_of}
-use Rattle.gn_app.specs.Command.{Command, eval}
+use Rattle.gn_app.specs.Command.{Command}
 use Rattle.gn_app.specs.Ending as endings
 use Rattle.gn_app.specs.Ending.{done, misused, no_file, unreadable, unwritable, no_json, misformed, bad_line, overlong, not_built, no_memory}
 use Rattle.gn_app.specs.Job.{evaluation, Giving, IsTree, BreaksRule, Leads, tree_limit, input_limit}
-use Rattle.gn_app.specs.Outcome.{Seen, AsksFor, Misses, HasCause, IsLastAsked}
+use Rattle.gn_app.specs.Outcome.{Seen, AsksFor, Misses, HasCause}
 use Rattle.gn_app.specs.Run.{Told}
 
 -- the counts don't fall, and what is held stays

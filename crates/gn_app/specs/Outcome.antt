@@ -1,5 +1,5 @@
 -- What a run leaves, by its end.
-use Rattle.std.specs.Prelude.{◌≡◌, ◌⊎◌, ℕ, ◌+◌, ◌<◌, ◌≤◌, List, [], ◌∷◌, ◌++◌, length, take, Option, Some, None, IfSome, IsSomeAnd, Result, Ok, Err}
+use Rattle.std.specs.Prelude.{◌≡◌, ◌⊎◌, ℕ, ◌+◌, ◌<◌, ◌≤◌, List, [], ◌∷◌, ◌++◌, length, take, Option, Some, None, IfSome, IsSomeAnd, Ok, Err}
 use Rattle.gn_io.specs.Outside.{Files, Names, Rose, stopped, with_name, with_bytes}
 use Rattle.gn_kinds.specs.Row.{Text}
 use Rattle.gn_app.specs.Command.{Command, eval, check, files_of}

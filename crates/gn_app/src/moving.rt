@@ -63,7 +63,10 @@ pub(crate) fn made(alloc: Global, prepared: Prepared) -> Result<Geometry, Memory
     match plan {
         Plan::Empty => Geometry::empty(alloc),
         Plan::Input => Ok(Geometry { mesh }),
-        Plan::Move { selected: false, .. } => Ok(Geometry { mesh }),
+        Plan::Move {
+            selected: false,
+            ..
+        } => Ok(Geometry { mesh }),
         Plan::Move {
             selected: true,
             to,

@@ -334,8 +334,7 @@ fn a_sum_past_the_range_stops_at_its_end(rt: HostRuntime) -> Result<(), Fail> {
 
 const EMPTY_TREE: &str = r#"{"format":1,"nodes":[]}"#;
 
-const INPUT_TREE: &str =
-    r#"{"format":1,"nodes":[],"output":{"from":"input","socket":"geometry"}}"#;
+const INPUT_TREE: &str = r#"{"format":1,"nodes":[],"output":{"from":"input","socket":"geometry"}}"#;
 
 /// Points go to (1, 2, 3) and then by (0, 0, 1).
 const PLACING_TREE: &str =
@@ -368,12 +367,6 @@ fn trees_give_out_what_they_mean(rt: HostRuntime) -> Result<(), Fail> {
             1,
         ),
         (RESTING_TREE, TRIANGLE, TRIANGLE, 1),
-        (
-            GROUPED_TREE,
-            TRIANGLE,
-            "v -1 -1 -1\nv 0 -1 -1\nv -1 0 -1\nf 1 2 3\n",
-            1,
-        ),
     ];
     for (tree, input, text, runs) in cases.iter() {
         let seen = run_over(&rt, rt.alloc(), &EVAL, tree, input, 0, NONE, NONE)?;
@@ -405,9 +398,17 @@ fn well_formed_trees_are_checked_alone(rt: HostRuntime) -> Result<(), Fail> {
     let seen = run_over(&rt, rt.alloc(), &CHECK, LIFT, ABSENT, 0, (1, 2), NONE)?;
     let said = "geonodes: write fault after 2 bytes\n";
     compare(&rt, &seen, Status::WriteFault, "ok", said, 1, 0);
-    for tree in [IMPORT_TREE, SWITCH_TREE].iter() {
+    for tree in [GROUPED_TREE, IMPORT_TREE, SWITCH_TREE].iter() {
         let seen = run_over(&rt, rt.alloc(), &EVAL, tree, ABSENT, 0, NONE, NONE)?;
-        compare(&rt, &seen, Status::NotBuilt, "", "geonodes: not built\n", 1, 0);
+        compare(
+            &rt,
+            &seen,
+            Status::NotBuilt,
+            "",
+            "geonodes: not built\n",
+            1,
+            0,
+        );
     }
     Ok(())
 }
@@ -438,11 +439,7 @@ fn trees_that_are_not_well_formed_are_told(rt: HostRuntime) -> Result<(), Fail> 
     let cases = [
         (deep.as_str(), Status::TreeText, text),
         ("{", Status::TreeText, text),
-        (
-            "[]",
-            Status::TreeForm,
-            "geonodes: tree form: F1 at /\n",
-        ),
+        ("[]", Status::TreeForm, "geonodes: tree form: F1 at /\n"),
         (
             FLOAT_FROM_NUMBER,
             Status::TreeForm,

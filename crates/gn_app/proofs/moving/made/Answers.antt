@@ -1,4 +1,4 @@
-use Rattle.std.proofs.Common.{◌≡◌, List, [], ◌∷◌, Option, map, false, refl, sym, ap}
+use Rattle.std.proofs.Common.{◌≡◌, List, [], ◌∷◌, Option, map, false, refl, ap}
 use Rattle.gn_value.specs.declared.vector.V3.{V3}
 use Rattle.gn_geom.specs.Meshes.{plain_of}
 use Rattle.gn_plain.specs.Geometry.{Shape, of_shape}
@@ -16,4 +16,4 @@ stays s to by = ap (λ points. of_shape (record s { points = points })) (unmoved
 pub returns-in-Move-false-default-default : goal.returns-in-Move-false-default-default
 returns-in-Move-false-default-default c =
     let m = c.in-Move-false-default-default in
-    rw m.selected-is (stays (plain_of c.args.prepared.mesh) m.to m.by)
+    rw (m.is, ← m.selected-is, m.selected-test) (stays (plain_of c.args.prepared.mesh) m.to m.by)
