@@ -1,4 +1,4 @@
--- What names give, where a shelf tells.
+-- What fetching a name returns, for a shelf that shows its files.
 use Rattle.std.proofs.Common.{◌≡◌, ℕ, ◌<◌, ◌≤◌, true, false, List, [], ◌∷◌, ◌++◌, length, Option, Some, None, refl, sym, subst, arith, IfSome}
 use Rattle.std.specs.Prelude.{IsSomeAnd, bytes_eq, nat_le}
 use Rattle.gn_io.specs.Outside.{Files, Names, with_name}
@@ -21,7 +21,7 @@ same_bytes name = (bytes_eq-Decides name name).1 refl
 pub same_text : (a b : Text) → true ≡ bytes_eq a b → a ≡ b
 same_text a b e = (bytes_eq-Decides a b).0 (sym e)
 
--- ---- facts of what names give
+-- ---- facts of what fetching returns
 
 pub where_both : (holds : Option Files) (before after : Option Names) (P Q R : Giving → Type 0) → ((files : Giving) → P files → Q files → R files) → WhereTold holds before after P → WhereTold holds before after Q → WhereTold holds before after R
 where_both None before after P Q R f h k = tt
@@ -32,7 +32,7 @@ where_both (Some files) (Some before) (Some after) P Q R f h k = f _ h k
 pub where_told : (holds : Option Files) (before after : Option Names) (P Q : Giving → Type 0) → ((files : Giving) → P files → Q files) → WhereTold holds before after P → WhereTold holds before after Q
 where_told holds before after P Q f h = where_both holds before after P P Q (λ files p q. f files p) h h
 
--- a fact of what names give, from another
+-- a fact of what fetching returns, from another
 pub told_map : (c : Command) (before now : Seen) (P Q : Giving → Type 0) → ((files : Giving) → P files → Q files) → Told c before now P → Told c before now Q
 told_map (eval t o) before now P Q f h = where_told before.holds before.missed now.missed P Q f h
 told_map (check t) before now P Q f h = where_told before.holds before.missed now.missed P Q f h

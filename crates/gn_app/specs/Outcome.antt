@@ -105,7 +105,7 @@ EndsAs wanted reading writing ending = ending ≡ wanted
 
 -- ---- the output and the node runs
 
--- a front part of the text was written, of so many bytes
+-- a front part of the text was written, of that number of bytes
 abbrev pub WritesPart : ℕ → Option (List ℕ) → Option (List ℕ) → Text → Type 0
 WritesPart taken before now text =
     (count : ℕ) × (count ≤ length text) × (now ≡ with_bytes before (take count text)) × (taken ≡ stopped count)

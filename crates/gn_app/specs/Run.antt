@@ -28,7 +28,7 @@ outside_of shelf sink (s, k, meter) =
 abbrev pub Between : {X K : Type 0} → (X → K) → X → X → (K → K → Type 0) → Type 0
 Between known before now fact = fact (known before) (known now)
 
--- a fact of what names give, where the shelf tells what it holds and what it missed in this call
+-- `fact` holds of what fetching returns, if the shelf shows what it holds and what it missed in this call
 abbrev pub WhereTold : Option Files → Option Names → Option Names → (Giving → Type 0) → Type 0
 WhereTold (Some files) (Some before) (Some after) fact = fact (file_answer files (gained before after))
 WhereTold _ _ _ fact = Unit {0}

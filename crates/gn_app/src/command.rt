@@ -111,7 +111,7 @@ fn run_words<'a, H: Shelf, K: Sink, L>(
 ///
 /// `eval TREE OBJ` writes the text of what the tree gives out for its input to `out`, asks `shelf`
 /// for each file once, and notes each node run. `check TREE` asks for the tree alone and writes `ok`
-/// and a line feed where it is well formed. Unless the end is `Done`, it is told on `err` by one line.
+/// and a line feed where it is well formed. Unless the end is `Done`, it is reported on `err` by one line.
 ///
 /// The words are those after the program's own name. No count of workers is taken, and the call
 /// waits for nobody.

@@ -5,7 +5,7 @@
 //! `specs/Run.antt`: the status is the one that the files lead to; where it is `Done` for `eval`, the
 //! bytes written are the text of the geometry that stands at what the tree gives out, the files asked
 //! for are the tree and the input, each once, and the node runs are as many as the nodes demanded; any
-//! other end is told by a line on the sink of messages. `check` asks for the tree alone, runs no node
+//! other end is reported by a line on the sink of messages. `check` asks for the tree alone, runs no node
 //! and writes `ok`. Words that spell no command touch no file and no output.
 //!
 //! A tree is read and checked by `gn_read`. So far `eval` evaluates the trees for which `gn_plans`

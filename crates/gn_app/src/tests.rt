@@ -106,7 +106,7 @@ fn run_over<R: Abort + Threads + Sync>(
     })
 }
 
-/// Compares what came of a run, which asked for the first so many of the two files.
+/// Compares what came of a run, which asked for the first `asked` of the two files.
 fn compare(
     rt: &impl Abort,
     seen: &Outcome,
@@ -193,7 +193,7 @@ fn a_fault_of_writing_tells_how_many_bytes_went_in(rt: HostRuntime) -> Result<()
 }
 
 #[test]
-fn words_that_are_no_command_touch_nothing_and_are_told(rt: HostRuntime) -> Result<(), Fail> {
+fn words_that_are_no_command_touch_nothing_and_are_reported(rt: HostRuntime) -> Result<(), Fail> {
     let cases: [(&[&str], &str); 9] = [
         (&[], "geonodes: usage: more words expected\n"),
         (&["eval"], "geonodes: usage: more words expected\n"),
@@ -299,7 +299,7 @@ fn inputs_are_obj_texts(rt: HostRuntime) -> Result<(), Fail> {
 }
 
 #[test]
-fn the_first_bad_line_of_an_input_is_told(rt: HostRuntime) -> Result<(), Fail> {
+fn the_first_bad_line_of_an_input_is_reported(rt: HostRuntime) -> Result<(), Fail> {
     let cases = [
         (
             "v 0 0 0\nv 1 0 0\nv 0 1 0\nf 1 2 0\n",
@@ -433,7 +433,7 @@ fn brackets(alloc: Global, count: usize) -> Result<String, Fail> {
 }
 
 #[test]
-fn trees_that_are_not_well_formed_are_told(rt: HostRuntime) -> Result<(), Fail> {
+fn trees_that_are_not_well_formed_are_reported(rt: HostRuntime) -> Result<(), Fail> {
     let deep = brackets(rt.alloc(), 128)?;
     let text = "geonodes: tree text\n";
     let cases = [
@@ -508,7 +508,7 @@ fn an_input_has_at_most_128_mebibytes(rt: HostRuntime) -> Result<(), Fail> {
     Ok(())
 }
 
-/// As many vertices as told, and a last line.
+/// That many vertices, and a last line.
 fn many_vertices(alloc: Global, count: usize, last: &str) -> Result<String, Fail> {
     let mut text = String::new(alloc);
     for _ in 0..count {

@@ -11,7 +11,7 @@ use Rattle.gn_meaning.specs.Origins.{IsReadFrom}
 use Rattle.gn_rows.specs.Carried.{value_through}
 use Rattle.gn_plans.specs.Plans.{Plan, no_mesh, the_input, a_move}
 
--- so many conversions on the way of its three constants stay below the limit on the steps of fields
+-- this many conversions on the way of its three constants stay below the limit on the steps of fields
 abbrev pub conversion_limit : ℕ
 conversion_limit = 4000
 
