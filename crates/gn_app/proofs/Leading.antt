@@ -23,6 +23,7 @@ use Rattle.gn_rules.specs.Number.{number_of}
 use Rattle.gn_rules.specs.Rules.{IsNamed, IsBrokenAt}
 use Rattle.gn_json.specs.Answers.{json, FirstMisfit}
 use Rattle.gn_json.specs.Exact.{tree_from}
+use Rattle.gn_plans.specs.Plans.{Plan, IsPlan, HasNoPlan}
 use Rattle.gn_app.specs.Command.{Command, eval, check, help, version}
 use Rattle.gn_app.specs.Ending.{Ending, done, misused, no_file, unreadable, unwritable, no_json, misformed, bad_line, overlong, not_built, no_memory}
 use Rattle.gn_app.specs.Job.{Job, IsTree, BreaksRule, TextGives, TreeGiven, TreeLeads, checked, mesh_given, Giving, Leads, tree_limit, input_limit}
@@ -175,11 +176,14 @@ one_given name absent r r' h k = h ∙ sym k
 one_given name (too_long size) r r' h k = h ∙ sym k
 one_given name (whole bytes) r r' h k = one_text bytes r r' h k
 
+not_both : (t : Tree) (plan : Plan) → HasNoPlan t → IsPlan t plan → ⊥
+not_both t plan none one = let bad : None ≡ Some plan = sym none ∙ one in cc
+
 one_way : (given : Result Tree Ending) (input : Result _ Ending) (r r' : Result Job Ending) → TreeLeads given input r → TreeLeads given input r' → r ≡ r'
 one_way (Err e) input r r' h k = h ∙ sym k
 one_way (Ok t) input r r' (inl h) (inl k) = h.1 ∙ sym k.1
-one_way (Ok t) input r r' (inl h) (inr k) = absurd (h.0 k.0.0 k.0.1)
-one_way (Ok t) input r r' (inr h) (inl k) = absurd (k.0 h.0.0 h.0.1)
+one_way (Ok t) input r r' (inl h) (inr k) = absurd (not_both t k.0.0 h.0 k.0.1)
+one_way (Ok t) input r r' (inr h) (inl k) = absurd (not_both t h.0.0 k.0 h.0.1)
 one_way (Ok t) input r r' (inr h) (inr k) = h.1 ∙ sym k.1
 
 pub leads_to_one : (files : Giving) (c : Command) (r r' : Result Job Ending) → Leads files c r → Leads files c r' → r ≡ r'
