@@ -13,6 +13,8 @@ TOP = os.path.dirname(os.path.dirname(os.path.abspath(__file__)))
 EXAMPLES = os.path.join(TOP, "examples")
 PROGRAM = os.path.join(TOP, "bin", "geonodes")
 TIMES = {"three": 3}
+# Trees that are well formed and not evaluated yet.
+WAITING = ["groups.json", "waves.json"]
 
 
 def rows(page):
@@ -51,9 +53,10 @@ def main():
     results = []
     for tree, _, output in trees:
         results.append(compare(("eval", tree, "triangle.obj"), (0, lines_of(output), b"")))
-    for tree in [tree for tree, _, _ in trees] + ["waves.json"]:
+    for tree in [tree for tree, _, _ in trees] + WAITING:
         results.append(compare(("check", tree), (0, b"ok\n", b"")))
-    results.append(compare(("eval", "waves.json", "triangle.obj"), (11, b"", b"geonodes: not built\n")))
+    for tree in WAITING:
+        results.append(compare(("eval", tree, "triangle.obj"), (11, b"", b"geonodes: not built\n")))
     for tree, line, _ in rows(refused):
         status = 6 if tree == "text.json" else 7
         want = (status, b"", f"geonodes: {line.strip('`')}\n".encode())
