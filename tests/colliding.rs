@@ -1,7 +1,7 @@
 //! Names and edges whose hashes collide, for a hash with a fixed seed that multiplies words to 128
 //! bits and joins the halves: `colliding names COUNT BITS` prints names of six letters and digits,
-//! `colliding edges COUNT BITS` pairs of vertices, each on a line. The lowest BITS of all their
-//! hashes are zero.
+//! `colliding edges COUNT BITS` pairs of vertices, each on a line. A table joins the halves of a hash
+//! of 64 bits once more, and the lowest BITS of what comes out are zero for all of them.
 
 use std::env;
 use std::io::{self, BufWriter, Write};
@@ -26,6 +26,11 @@ fn with_name(name: &[u8; 6]) -> u64 {
     with_word(with_word(SEED, half(0) | half(2) << 32, 6), 0xff_ffff, 1)
 }
 
+/// Where the search of a table begins at such a hash, but for the size of the table.
+fn start(hash: u64) -> u64 {
+    hash ^ hash >> 32
+}
+
 fn names(out: &mut impl Write, count: usize, mask: u64) -> io::Result<()> {
     const LETTERS: &[u8; 36] = b"abcdefghijklmnopqrstuvwxyz0123456789";
     let mut found = 0;
@@ -36,7 +41,7 @@ fn names(out: &mut impl Write, count: usize, mask: u64) -> io::Result<()> {
             rest /= 36;
             letter
         });
-        if name[0].is_ascii_lowercase() && with_name(&name) & mask == 0 {
+        if name[0].is_ascii_lowercase() && start(with_name(&name)) & mask == 0 {
             out.write_all(&name)?;
             out.write_all(b"\n")?;
             found += 1;
@@ -53,7 +58,7 @@ fn edges(out: &mut impl Write, count: usize, mask: u64, vertices: u32) -> io::Re
     for lesser in 0..vertices {
         let state = with_number(SEED, lesser);
         for greater in lesser + 1..vertices {
-            if with_number(state, greater) & mask == 0 {
+            if start(with_number(state, greater)) & mask == 0 {
                 writeln!(out, "{} {}", lesser + 1, greater + 1)?;
                 found += 1;
                 if found == count {
