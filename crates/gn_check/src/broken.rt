@@ -49,20 +49,20 @@ pub(crate) fn name_breaks(sought: Sought, names: &Names<'_>, number: usize, name
 }
 
 /// Whether a link in an array of links breaks a rule by itself.
-pub(crate) fn link_breaks(scope: &Scope<'_>, link: &TreeLink) -> bool
+pub(crate) fn link_breaks(scope: &Scope<'_, '_>, link: &TreeLink) -> bool
     ensures { result ≡ walk.breaks_link scope.now.sought (scope_of scope.now) (link_of link.now) }
 {
     scope.sought.has(Rule::Links) && scope.source(link).is_none()
 }
 
 /// Whether the name of a group breaks a rule.
-pub(crate) fn group_name_breaks(scope: &Scope<'_>, name: &str) -> bool
+pub(crate) fn group_name_breaks(scope: &Scope<'_, '_>, name: &str) -> bool
     ensures { result ≡ walk.breaks_group_name scope.now.sought (scope_of scope.now) name.now }
 {
     scope.sought.has(Rule::Links) && !scope.is_above(name)
 }
 
-fn is_loose(scope: &Scope<'_>, input: &TreeInput) -> bool
+fn is_loose(scope: &Scope<'_, '_>, input: &TreeInput) -> bool
     ensures { result ≡ rules.is_loose (scope_of scope.now) (input_of input.now) }
 {
     match input {
@@ -103,7 +103,7 @@ fn is_of(kind: SocketKind, value: &Value) -> bool
     }
 }
 
-fn link_clashes(scope: &Scope<'_>, kind: SocketKind, link: &TreeLink) -> bool
+fn link_clashes(scope: &Scope<'_, '_>, kind: SocketKind, link: &TreeLink) -> bool
     ensures { result ≡ rules.link_clashes (scope_of scope.now) kind (link_of link.now) }
 {
     match scope.source(link) {
@@ -112,7 +112,7 @@ fn link_clashes(scope: &Scope<'_>, kind: SocketKind, link: &TreeLink) -> bool
     }
 }
 
-fn any_clashes(scope: &Scope<'_>, kind: SocketKind, links: &[TreeLink]) -> bool
+fn any_clashes(scope: &Scope<'_, '_>, kind: SocketKind, links: &[TreeLink]) -> bool
     ensures { result ≡ list_any (rules.link_clashes (scope_of scope.now) kind) (map link_of links.now) }
 {
     for link in links {
@@ -124,7 +124,7 @@ fn any_clashes(scope: &Scope<'_>, kind: SocketKind, links: &[TreeLink]) -> bool
 }
 
 /// Whether the input is none for a socket that carries this.
-fn is_unfit(scope: &Scope<'_>, shape: Shape, input: &TreeInput) -> bool
+fn is_unfit(scope: &Scope<'_, '_>, shape: Shape, input: &TreeInput) -> bool
     ensures { result ≡ rules.is_unfit (scope_of scope.now) shape (input_of input.now) }
 {
     match input {
@@ -134,7 +134,7 @@ fn is_unfit(scope: &Scope<'_>, shape: Shape, input: &TreeInput) -> bool
     }
 }
 
-fn is_unfit_for(scope: &Scope<'_>, shape: Option<Shape>, input: &TreeInput) -> bool
+fn is_unfit_for(scope: &Scope<'_, '_>, shape: Option<Shape>, input: &TreeInput) -> bool
     ensures { result ≡ option_map_or (λ there. rules.is_unfit (scope_of scope.now) there (input_of input.now)) shape false }
 {
     match shape {
@@ -144,14 +144,14 @@ fn is_unfit_for(scope: &Scope<'_>, shape: Option<Shape>, input: &TreeInput) -> b
 }
 
 /// Whether there is no socket for the input, or its link leads from nothing.
-fn names_nothing(scope: &Scope<'_>, shape: Option<Shape>, input: &TreeInput) -> bool
+fn names_nothing(scope: &Scope<'_, '_>, shape: Option<Shape>, input: &TreeInput) -> bool
     ensures { result ≡ (is_none shape || rules.is_loose (scope_of scope.now) (input_of input.now)) }
 {
     shape.is_none() || is_loose(scope, input)
 }
 
 /// Whether the input breaks a rule by itself, at a socket that carries this, if there is one.
-pub(crate) fn input_breaks(scope: &Scope<'_>, shape: Option<Shape>, input: &TreeInput) -> bool
+pub(crate) fn input_breaks(scope: &Scope<'_, '_>, shape: Option<Shape>, input: &TreeInput) -> bool
     ensures { result ≡ walk.breaks_input scope.now.sought (scope_of scope.now) shape (input_of input.now) }
 {
     if scope.sought.has(Rule::Links) && names_nothing(scope, shape, input) {
@@ -162,13 +162,13 @@ pub(crate) fn input_breaks(scope: &Scope<'_>, shape: Option<Shape>, input: &Tree
 
 /// Whether the node is a zone higher than 2.
 #[tactic(auto, using(crate::proofs::Judging::too_high_seen))]
-fn is_too_high(scope: &Scope<'_>, node: &Node) -> bool
+fn is_too_high(scope: &Scope<'_, '_>, node: &Node) -> bool
     ensures { result ≡ rules.is_too_high (scope_of scope.now) node.now }
 {
     is_zone(settings_of(node)) && scope.groups.measures.is_higher(scope.above, node, 2)
 }
 
-fn is_on_cycle(alloc: Global, scope: &Scope<'_>, number: usize) -> Result<bool, Memory>
+fn is_on_cycle(alloc: Global, scope: &Scope<'_, '_>, number: usize) -> Result<bool, Memory>
     requires { IsTrue (has scope.now.sought named.Order) }
     ensures { IfOk result (λ found. found ≡ is_on_cycle (rules.graph_of (scope_of scope.now).nodes) number) }
 {
@@ -178,7 +178,7 @@ fn is_on_cycle(alloc: Global, scope: &Scope<'_>, number: usize) -> Result<bool, 
 /// Whether the node with that number breaks a rule by itself.
 pub(crate) fn node_breaks(
     alloc: Global,
-    scope: &Scope<'_>,
+    scope: &Scope<'_, '_>,
     number: usize,
     node: &Node,
 ) -> Result<bool, Memory>

@@ -28,10 +28,10 @@ static RULES: [Rule; 6] = [
 ];
 
 /// The first of these rules that the tree breaks, with the first pointer where it does.
-fn first_of(
+fn first_of<'t>(
     alloc: Global,
-    tree: &Tree,
-    groups: &Groups<'_>,
+    tree: &'t Tree,
+    groups: &Groups<'t>,
     rules: &[Rule],
 ) -> Result<Option<(Rule, VecDeque<Step>)>, Memory>
     requires { groups.now.list.now ≡ tree.now.groups.items }

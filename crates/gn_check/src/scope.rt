@@ -22,36 +22,37 @@ use std::alloc::Global;
 
 /// What links from `input` may name in a list of nodes.
 #[derive(Clone, Copy)]
-pub(crate) enum Entries<'s> {
+pub(crate) enum Entries<'s, 't> {
     /// The geometry that a tree is given.
     Tree,
     /// The inputs of a group.
-    Group(&'s Sockets<'s>),
+    Group(&'s Sockets<'t>),
     /// The number of the iteration, and the items of a zone.
-    Zone(&'s Sockets<'s>),
+    Zone(&'s Sockets<'t>),
 }
 
 /// The inputs that are declared somewhere: those of a row, and then others.
 #[derive(Clone, Copy)]
-pub(crate) struct Inputs<'s> {
+pub(crate) struct Inputs<'s, 't> {
     pub(crate) rows: &'static [InputRow],
     pub(crate) chosen: SocketKind,
-    pub(crate) others: &'s Sockets<'s>,
+    pub(crate) others: &'s Sockets<'t>,
 }
 
 /// A list of nodes, with what the links in it may name, and with what the rules look at.
+/// `'t` is the lifetime of the tree, and `'s` that of what stands around the list.
 #[derive(Drop)]
-pub(crate) struct Scope<'s> {
+pub(crate) struct Scope<'s, 't> {
     /// The rules that are looked for.
     pub(crate) sought: Sought,
-    pub(crate) nodes: &'s Vec<Node>,
-    pub(crate) ids: Names<'s>,
+    pub(crate) nodes: &'t Vec<Node>,
+    pub(crate) ids: Names<'t>,
     /// For each node the items of its zone.
-    pub(crate) items: Vec<Sockets<'s>>,
+    pub(crate) items: Vec<Sockets<'t>>,
     /// For the rule on order: which node leads to which.
     pub(crate) graph: Graph,
-    pub(crate) entries: Entries<'s>,
-    pub(crate) groups: &'s Groups<'s>,
+    pub(crate) entries: Entries<'s, 't>,
+    pub(crate) groups: &'s Groups<'t>,
     /// How many of the groups stand above.
     pub(crate) above: usize,
     ghost with_ids: { ids ≡ named.ids (nodes_of nodes.now.items) },
@@ -130,7 +131,7 @@ fn graph_for(
 }
 
 /// What the entry of that name carries.
-fn find_entry(entries: Entries<'_>, name: &str) -> Option<Shape>
+fn find_entry(entries: Entries<'_, '_>, name: &str) -> Option<Shape>
     ensures { result ≡ named.declared (entries_of entries.entry) name.now }
 {
     match entries {
@@ -150,18 +151,18 @@ fn find_entry(entries: Entries<'_>, name: &str) -> Option<Shape>
     }
 }
 
-impl<'s> Scope<'s> {
+impl<'s, 't> Scope<'s, 't> {
     ghost use Rattle.gn_check.specs.Seen.{scope_of};
 
     /// The list of nodes as the rules look at it.
     pub(crate) fn new(
         alloc: Global,
         sought: Sought,
-        nodes: &'s Vec<Node>,
-        entries: Entries<'s>,
-        groups: &'s Groups<'s>,
+        nodes: &'t Vec<Node>,
+        entries: Entries<'s, 't>,
+        groups: &'s Groups<'t>,
         above: usize,
-    ) -> Result<Scope<'s>, Memory>
+    ) -> Result<Scope<'s, 't>, Memory>
         ensures seen { IfOk result (λ scope. scope_of scope
             ≡ record { nodes = nodes_of nodes.now.items; entries = entries_of entries.entry; groups = map group_of groups.now.list.now; above = above }) }
         ensures looked_for { IfOk result (λ scope. scope.sought ≡ sought) }
@@ -182,7 +183,7 @@ impl<'s> Scope<'s> {
     }
 
     /// The items of the zone of the node with that number.
-    fn items(&self, number: usize) -> &Sockets<'s>
+    fn items(&self, number: usize) -> &Sockets<'t>
         ensures { map socket_of result.now.list.now
             ≡ option_map_or items_of_node (slice_get self.now.nodes.now.items number) [] }
     {
@@ -193,7 +194,7 @@ impl<'s> Scope<'s> {
     }
 
     /// The further inputs or outputs of the node with that number, which has these settings.
-    fn further(&self, side: Side, number: usize, settings: &[Setting]) -> &Sockets<'s>
+    fn further(&self, side: Side, number: usize, settings: &[Setting]) -> &Sockets<'t>
         requires { IsSomeAnd (slice_get self.now.nodes.now.items number) (λ node. settings_in node ≡ settings_of settings.now) }
         ensures { map socket_of result.now.list.now
             ≡ named.further (side_of side) (map group_of self.now.groups.now.list.now) (settings_of settings.now) }
@@ -243,7 +244,7 @@ impl<'s> Scope<'s> {
 
     /// The inputs of the node with that number.
     #[tactic(auto, using(crate::proofs::Finding::inputs_seen))]
-    pub(crate) fn inputs_of(&self, number: usize, node: &Node) -> Inputs<'_>
+    pub(crate) fn inputs_of(&self, number: usize, node: &Node) -> Inputs<'_, 't>
         requires { slice_get self.now.nodes.now.items number ≡ Some node.now }
         ensures { declared_by result ≡ named.inputs_of (map group_of self.now.groups.now.list.now) node.now }
     {
@@ -266,7 +267,7 @@ impl<'s> Scope<'s> {
     }
 }
 
-impl<'s> Inputs<'s> {
+impl<'s, 't> Inputs<'s, 't> {
     /// What the first of these inputs with that name carries.
     #[tactic(auto, using(crate::proofs::Finding::declared_append))]
     pub(crate) fn find(&self, name: &str) -> Option<Shape>

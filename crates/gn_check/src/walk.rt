@@ -62,7 +62,7 @@ fn here(alloc: Global) -> Option<VecDeque<Step>>
 
 fn first_link(
     alloc: Global,
-    scope: &Scope<'_>,
+    scope: &Scope<'_, '_>,
     links: &[TreeLink],
 ) -> Result<Option<VecDeque<Step>>, Memory>
     ensures { IfOk result (λ pointer. option_map pointer_of pointer
@@ -80,7 +80,7 @@ fn first_link(
 
 fn in_input(
     alloc: Global,
-    scope: &Scope<'_>,
+    scope: &Scope<'_, '_>,
     shape: Option<Shape>,
     input: &TreeInput,
 ) -> Result<Option<VecDeque<Step>>, Memory>
@@ -100,8 +100,8 @@ fn in_input(
 /// The first pointer among inputs under the names of sockets, of which these are declared.
 fn first_input(
     alloc: Global,
-    scope: &Scope<'_>,
-    declared: &Inputs<'_>,
+    scope: &Scope<'_, '_>,
+    declared: &Inputs<'_, '_>,
     inputs: &[(String, TreeInput)],
 ) -> Result<Option<VecDeque<Step>>, Memory>
     ensures { IfOk result (λ pointer. option_map pointer_of pointer
@@ -119,7 +119,7 @@ fn first_input(
 /// The first pointer in what is given out by the names of these sockets.
 fn in_output(
     alloc: Global,
-    scope: &Scope<'_>,
+    scope: &Scope<'_, '_>,
     sockets: &Sockets<'_>,
     output: &[(String, TreeInput)],
 ) -> Result<Option<VecDeque<Step>>, Memory>
@@ -154,7 +154,7 @@ fn in_sockets(
 
 fn in_group_name(
     alloc: Global,
-    scope: &Scope<'_>,
+    scope: &Scope<'_, '_>,
     name: &str,
 ) -> Result<Option<VecDeque<Step>>, Memory>
     ensures { IfOk result (λ pointer. option_map pointer_of pointer
@@ -168,7 +168,7 @@ fn in_group_name(
 
 /// The first pointer in a list of nodes.
 #[cycle(walk)]
-fn first_node(alloc: Global, scope: &Scope<'_>) -> Result<Option<VecDeque<Step>>, Memory>
+fn first_node(alloc: Global, scope: &Scope<'_, '_>) -> Result<Option<VecDeque<Step>>, Memory>
     ensures { IfOk result (λ pointer. option_map pointer_of pointer
         ≡ walk.first_node (breaks scope.now.sought) (scope_of scope.now) 0 (nodes_of scope.now.nodes.now.items)) }
 {
@@ -186,7 +186,7 @@ fn first_node(alloc: Global, scope: &Scope<'_>) -> Result<Option<VecDeque<Step>>
 /// The first pointer in the inputs of a node.
 fn in_inputs(
     alloc: Global,
-    scope: &Scope<'_>,
+    scope: &Scope<'_, '_>,
     number: usize,
     node: &Node,
 ) -> Result<Option<VecDeque<Step>>, Memory>
@@ -198,11 +198,11 @@ fn in_inputs(
 }
 
 #[cycle(walk)]
-fn in_node(
+fn in_node<'t>(
     alloc: Global,
-    scope: &Scope<'_>,
+    scope: &Scope<'_, 't>,
     number: usize,
-    node: &Node,
+    node: &'t Node,
 ) -> Result<Option<VecDeque<Step>>, Memory>
     requires { slice_get scope.now.nodes.now.items number ≡ Some node.now }
     ensures { IfOk result (λ pointer. option_map pointer_of pointer ≡ walk.in_node (breaks scope.now.sought) (scope_of scope.now) number node.now) }
@@ -219,10 +219,10 @@ fn in_node(
 }
 
 #[cycle(walk)]
-fn in_settings(
+fn in_settings<'t>(
     alloc: Global,
-    scope: &Scope<'_>,
-    settings: &[Setting],
+    scope: &Scope<'_, 't>,
+    settings: &'t [Setting],
 ) -> Result<Option<VecDeque<Step>>, Memory>
     ensures { IfOk result (λ pointer. option_map pointer_of pointer
         ≡ walk.in_settings (breaks scope.now.sought) (scope_of scope.now) (settings_of settings.now)) }
@@ -239,7 +239,11 @@ fn in_settings(
 }
 
 #[cycle(walk)]
-fn in_zone(alloc: Global, scope: &Scope<'_>, zone: &Zone) -> Result<Option<VecDeque<Step>>, Memory>
+fn in_zone<'t>(
+    alloc: Global,
+    scope: &Scope<'_, 't>,
+    zone: &'t Zone,
+) -> Result<Option<VecDeque<Step>>, Memory>
     ensures { IfOk result (λ pointer. option_map pointer_of pointer ≡ in_zone (breaks scope.now.sought) (scope_of scope.now) zone.now) }
 {
     let items = Sockets::new(alloc, &zone.items)?;
@@ -267,7 +271,7 @@ fn in_zone(alloc: Global, scope: &Scope<'_>, zone: &Zone) -> Result<Option<VecDe
 /// The first pointer in what a group gives out and in its outputs.
 fn in_results(
     alloc: Global,
-    scope: &Scope<'_>,
+    scope: &Scope<'_, '_>,
     group: &Group,
 ) -> Result<Option<VecDeque<Step>>, Memory>
     ensures { IfOk result (λ pointer. option_map pointer_of pointer ≡ in_results (breaks scope.now.sought) (scope_of scope.now) (group_of group.now)) }
@@ -282,12 +286,12 @@ fn in_results(
 }
 
 /// The first pointer in the parts of the group with that number.
-fn in_parts(
+fn in_parts<'t>(
     alloc: Global,
     sought: Sought,
-    groups: &Groups<'_>,
+    groups: &Groups<'t>,
     number: usize,
-    group: &Group,
+    group: &'t Group,
 ) -> Result<Option<VecDeque<Step>>, Memory>
     ensures { IfOk result (λ pointer. option_map pointer_of pointer ≡ in_parts (breaks sought) (map group_of groups.now.list.now) number (group_of group.now)) }
 {
@@ -305,12 +309,12 @@ fn in_parts(
     in_results(alloc, &scope, group)
 }
 
-fn in_group(
+fn in_group<'t>(
     alloc: Global,
     sought: Sought,
-    groups: &Groups<'_>,
+    groups: &Groups<'t>,
     number: usize,
-    group: &Group,
+    group: &'t Group,
 ) -> Result<Option<VecDeque<Step>>, Memory>
     ensures { IfOk result (λ pointer. option_map pointer_of pointer
         ≡ walk.in_group (breaks sought) (map group_of groups.now.list.now) number (group_of group.now)) }
@@ -341,11 +345,11 @@ fn first_group(
 }
 
 /// The first pointer in the tree's own list of nodes and in what the tree gives out.
-fn in_body<'s>(
+fn in_body<'t>(
     alloc: Global,
     sought: Sought,
-    tree: &'s Tree,
-    groups: &'s Groups<'s>,
+    tree: &'t Tree,
+    groups: &Groups<'t>,
 ) -> Result<Option<VecDeque<Step>>, Memory>
     requires { groups.now.list.now ≡ tree.now.groups.items }
     ensures { IfOk result (λ pointer. option_map pointer_of pointer ≡ in_body (breaks sought) (tree_of tree.now)) }
@@ -367,11 +371,11 @@ fn in_body<'s>(
 }
 
 /// The first pointer where the tree breaks one of the rules that are looked for.
-pub(crate) fn in_tree(
+pub(crate) fn in_tree<'t>(
     alloc: Global,
     sought: Sought,
-    tree: &Tree,
-    groups: &Groups<'_>,
+    tree: &'t Tree,
+    groups: &Groups<'t>,
 ) -> Result<Option<VecDeque<Step>>, Memory>
     requires { groups.now.list.now ≡ tree.now.groups.items }
     ensures { IfOk result (λ pointer. option_map pointer_of pointer ≡ walk.first_pointer (tree_of tree.now) sought) }

@@ -9,13 +9,13 @@ use gn_tree::{Node, Setting};
 
 /// What each group has, by its name; only the first `above` of them are there to be used.
 #[derive(Clone, Copy)]
-pub(crate) struct Known<'a> {
-    pub(crate) names: &'a Names<'a>,
+pub(crate) struct Known<'a, 't> {
+    pub(crate) names: &'a Names<'t>,
     pub(crate) numbers: &'a [u64],
     pub(crate) above: usize,
 }
 
-fn number_of(groups: &Known<'_>, name: &str) -> u64
+fn number_of(groups: &Known<'_, '_>, name: &str) -> u64
     ensures { result ≡ known groups.now name.now }
 {
     match groups.names.first(name) {
@@ -31,14 +31,14 @@ fn number_of(groups: &Known<'_>, name: &str) -> u64
 
 /// How high a node is; at most 2^64 - 1 is told.
 #[cycle(height)]
-pub(crate) fn height(groups: &Known<'_>, node: &Node) -> u64
+pub(crate) fn height(groups: &Known<'_, '_>, node: &Node) -> u64
     ensures { result ≡ capped (rule.height (known groups.now) node.now) }
 {
     height_in(groups, &node.settings)
 }
 
 #[cycle(height)]
-fn height_of(groups: &Known<'_>, setting: &Setting) -> u64
+fn height_of(groups: &Known<'_, '_>, setting: &Setting) -> u64
     ensures { result ≡ capped (height_of (known groups.now) setting.now) }
 {
     match setting {
@@ -49,7 +49,7 @@ fn height_of(groups: &Known<'_>, setting: &Setting) -> u64
 }
 
 #[cycle(height)]
-fn height_in(groups: &Known<'_>, settings: &Vec<Setting>) -> u64
+fn height_in(groups: &Known<'_, '_>, settings: &Vec<Setting>) -> u64
     ensures { result ≡ capped (rule.height_in (known groups.now) (settings_of settings.now.items)) }
 {
     let mut highest: u64 = 0;
@@ -61,7 +61,7 @@ fn height_in(groups: &Known<'_>, settings: &Vec<Setting>) -> u64
 
 /// How high the highest node is; at most 2^64 - 1 is told.
 #[cycle(height)]
-pub(crate) fn heights(groups: &Known<'_>, nodes: &Vec<Node>) -> u64
+pub(crate) fn heights(groups: &Known<'_, '_>, nodes: &Vec<Node>) -> u64
     ensures { result ≡ capped (rule.heights (known groups.now) (nodes_of nodes.now.items)) }
 {
     let mut highest: u64 = 0;
@@ -72,14 +72,14 @@ pub(crate) fn heights(groups: &Known<'_>, nodes: &Vec<Node>) -> u64
 }
 
 #[cycle(count)]
-fn count(groups: &Known<'_>, node: &Node) -> u64
+fn count(groups: &Known<'_, '_>, node: &Node) -> u64
     ensures { result ≡ capped (rule.count (known groups.now) node.now) }
 {
     count_in(groups, &node.settings).saturating_add(1)
 }
 
 #[cycle(count)]
-fn count_of(groups: &Known<'_>, setting: &Setting) -> u64
+fn count_of(groups: &Known<'_, '_>, setting: &Setting) -> u64
     ensures { result ≡ capped (count_of (known groups.now) setting.now) }
 {
     match setting {
@@ -90,7 +90,7 @@ fn count_of(groups: &Known<'_>, setting: &Setting) -> u64
 }
 
 #[cycle(count)]
-fn count_in(groups: &Known<'_>, settings: &Vec<Setting>) -> u64
+fn count_in(groups: &Known<'_, '_>, settings: &Vec<Setting>) -> u64
     ensures { result ≡ capped (rule.count_in (known groups.now) (settings_of settings.now.items)) }
 {
     let mut all: u64 = 0;
@@ -102,7 +102,7 @@ fn count_in(groups: &Known<'_>, settings: &Vec<Setting>) -> u64
 
 /// How many nodes there are with groups unfolded; at most 2^64 - 1 is told.
 #[cycle(count)]
-pub(crate) fn counts(groups: &Known<'_>, nodes: &Vec<Node>) -> u64
+pub(crate) fn counts(groups: &Known<'_, '_>, nodes: &Vec<Node>) -> u64
     ensures { result ≡ capped (rule.counts (known groups.now) (nodes_of nodes.now.items)) }
 {
     let mut all: u64 = 0;

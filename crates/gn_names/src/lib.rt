@@ -1,23 +1,26 @@
-//! Names in a list, and where the first of a name stands.
+//! Names in a list, and the number of the first of a name.
 //!
 //! Contracts see `Names` as the list of its names. `first` promises the number of the first name of
-//! the list that is the one that is asked for, in one look-up, however long the list is. The crate
-//! stands on `indexmap`.
+//! the list that is the one that is asked for, in one look-up, however long the list is.
+//!
+//! The numbers are kept in an ordered map of the standard library, and not in one with a hash: names
+//! come from files, and whoever writes a file can choose names whose hashes collide. A look-up among n
+//! names compares the logarithm of n of them, whatever they are.
 #![tactic(auto)]
 
-ghost use Rattle.std.specs.Prelude.{◌≡◌, IfOk, OnOk, map};
-ghost use Rattle.gn_names.specs.First.{first_of, AreFirst, NotesFirst};
+ghost use Rattle.std.specs.Prelude.{◌≡◌, IfOk, map};
+ghost use Rattle.gn_names.specs.First.{first_of, AreFirst};
 
 use gn_memory::Memory;
-use indexmap::IndexMap;
 use std::alloc::Global;
+use std::collections::BTreeMap;
 use std::marker::Model;
 
 /// A list of names, some of which may be equal.
 #[derive(Drop)]
 pub struct Names<'a> {
     list: Vec<&'a str>,
-    places: IndexMap<&'a str, usize>,
+    numbers: BTreeMap<&'a str, usize>,
 }
 
 impl<'a> Model for Names<'a> {
@@ -28,35 +31,21 @@ impl<'a> Model for Names<'a> {
 
     ghost view = { λ x. map (λ n. n.now) x.list.items };
 
-    ghost invariant = { λ x. AreFirst x.places (map (λ n. n.now) x.list.items) };
+    ghost invariant = { λ x. AreFirst x.numbers (map (λ n. n.now) x.list.items) };
 }
 
-/// Notes where the name stands, unless an equal one stands earlier.
-fn note_first<'a>(
-    places: &mut IndexMap<&'a str, usize>,
-    name: &'a str,
-    place: usize,
-) -> Result<(), Memory>
-    ensures { OnOk result (NotesFirst places.old places.new name.now place) }
+/// The number of the first of each name of the list.
+fn first_numbers<'a>(alloc: Global, list: &[&'a str]) -> Result<BTreeMap<&'a str, usize>, Memory>
+    ensures { IfOk result (λ numbers. AreFirst numbers (map (λ n. n.now) list.now)) }
 {
-    if places.get(name).is_some() {
-        return Ok(());
+    let mut numbers = BTreeMap::new(alloc);
+    // From the last name to the first, so the first of equal names is what the map keeps.
+    let mut number = list.len();
+    while number > 0 {
+        number -= 1;
+        numbers.insert(list[number], number)?;
     }
-    places.insert(name, place)?;
-    Ok(())
-}
-
-/// Where each name of the list stands for the first time.
-fn first_places<'a>(alloc: Global, list: &[&'a str]) -> Result<IndexMap<&'a str, usize>, Memory>
-    ensures { IfOk result (λ places. AreFirst places (map (λ n. n.now) list.now)) }
-{
-    let mut places = IndexMap::with_capacity(alloc, list.len())?;
-    let mut place: usize = 0;
-    for name in list {
-        note_first(&mut places, name, place)?;
-        place += 1;
-    }
-    Ok(places)
+    Ok(numbers)
 }
 
 impl<'a> Names<'a> {
@@ -64,14 +53,14 @@ impl<'a> Names<'a> {
     pub fn new(alloc: Global, list: Vec<&'a str>) -> Result<Names<'a>, Memory>
         ensures { IfOk result (λ names. names ≡ map (λ n. n.now) list.entry.items) }
     {
-        let places = first_places(alloc, &list)?;
-        Ok(Names { list, places })
+        let numbers = first_numbers(alloc, &list)?;
+        Ok(Names { list, numbers })
     }
 
     /// The number, from 0, of the first name of the list that is this one.
     pub fn first(&self, name: &str) -> Option<usize>
         ensures { result ≡ first_of self.now name.now }
     {
-        self.places.get(name).copied()
+        self.numbers.get(name).copied()
     }
 }
