@@ -1,5 +1,5 @@
-ghost use Rattle.std.specs.Prelude.{◌≡◌, ◌≤◌, None, ℕ, [], length};
-ghost use Rattle.gn_io.specs.FolderShelf.{counted, IsOnePast};
+ghost use Rattle.std.specs.Prelude.{◌≡◌, ◌≤◌, None, ℕ, [], length, IfOk, IfSome};
+ghost use Rattle.gn_io.specs.FolderShelf.{counted, IsOnePast, IsWholeOrLong, Reads};
 ghost use Rattle.gn_io.specs.Shelf.{Serves};
 
 use crate::shelf::{Fetched, Shelf};
@@ -62,11 +62,7 @@ impl<R: Files> Shelf for FolderShelf<'_, R> {
     {
         into.clear();
         let error = match read_file(self.rt, name, limit, into) {
-            Ok(()) if into.len() as u64 <= limit => return Fetched::Whole,
-            Ok(()) => {
-                into.clear();
-                return Fetched::TooLong { length: limit + 1 };
-            }
+            Ok(answer) => return answer,
             Err(error) => error,
         };
         into.clear();
@@ -84,13 +80,36 @@ impl<R: Files> Shelf for FolderShelf<'_, R> {
     }
 }
 
-/// Appends the file's bytes, but no more than `limit` and one.
-fn read_file<R: Files>(rt: &R, name: &str, limit: u64, into: &mut Vec<u8>) -> io::Result<()> {
+/// Reads the file into the empty `into`.
+fn read_file<R: Files>(rt: &R, name: &str, limit: u64, into: &mut Vec<u8>) -> io::Result<Fetched>
+    requires { into.old.items ≡ [] }
+    ensures serves { IfOk result (λ answer. Serves None name.now limit into.new.items answer) }
+    ensures one_past { IfOk result (IsOnePast limit) }
+    ensures answer { IfOk result IsWholeOrLong }
+{
     let file = File::open(rt, name)?;
-    let most = limit.saturating_add(1);
     // one byte more than the file has, so that the end is found with no further room
-    let length = file.metadata()?.len().min(most) as usize;
+    let length = file.metadata()?.len().min(limit.saturating_add(1)) as usize;
     into.reserve_exact(length.saturating_add(1))?;
-    file.take(most).read_to_end(into)?;
-    Ok(())
+    read_within(file, limit, into)
+}
+
+/// Reads what the reader has left into the empty `into` where it is at most `limit` bytes, and no more
+/// than one byte past the limit.
+///
+/// A fault of the reader is an `Err`, whatever was read before it.
+#[tactic(auto, using(crate::proofs::Fronts::short_front))]
+fn read_within<R: Read + Drop>(reader: R, limit: u64, into: &mut Vec<u8>) -> io::Result<Fetched>
+    requires { into.old.items ≡ [] }
+    ensures read { IfOk result (λ answer. IfSome (R.remaining reader) (λ bytes. Reads limit bytes answer into.new.items)) }
+    ensures serves { IfOk result (λ answer. Serves None [] limit into.new.items answer) }
+    ensures one_past { IfOk result (IsOnePast limit) }
+    ensures answer { IfOk result IsWholeOrLong }
+{
+    reader.take(limit.saturating_add(1)).read_to_end(into)?;
+    if into.len() as u64 <= limit {
+        return Ok(Fetched::Whole);
+    }
+    into.clear();
+    Ok(Fetched::TooLong { length: limit + 1 })
 }

@@ -184,9 +184,10 @@ impl<T: Drop, const LIMIT: u64> SharedArray<T, LIMIT> {
         }
     }
 
-    /// Looks for the only handle beside another one of the same block, and so is refused.
+    /// Tries to claim sole use while `other` holds the same block: always refused.
     pub fn write_beside(&mut self, other: &SharedArray<T, LIMIT>) -> InUse
         requires { self.old.block ≡ other.now.block }
+        ensures not_sole { self.old.parts ≢ LIMIT }
         ensures in_use { 2 ≤ result.users }
         ensures unchanged { self.new ≡ self.old }
     {

@@ -7,6 +7,8 @@ use Rattle.gn_value.specs.declared.value.Value.{Value}
 use Rattle.gn_value.specs.declared.value.Value.TheVariants.{Truth as truth, Int as int, Fixed as fixed, Vector as vector}
 use Rattle.gn_value.specs.declared.value.ValueKind.{ValueKind}
 use Rattle.gn_value.specs.declared.value.ValueKind.TheVariants.{Truth, Int, Fixed, Vector}
+use Rattle.gn_value.specs.declared.value.Place.{Place}
+use Rattle.gn_value.specs.declared.value.Place.TheVariants.{Point, Edge, Face, Corner, Cloud, Instance}
 
 -- the fixed number with a raw number, and the vector with three
 abbrev pub fx : ℤ → Fx
@@ -103,3 +105,21 @@ converted value Truth = truth (as_truth value)
 converted value Int = int (as_int value)
 converted value Fixed = fixed (fx (as_fixed value))
 converted value Vector = vector (as_vector value)
+
+-- ---- the numbers of kinds and of places
+
+-- the number by which a conversion names the kind that it leads to
+abbrev pub position_of : ValueKind → ℕ
+position_of Truth = 0
+position_of Int = 1
+position_of Fixed = 2
+position_of Vector = 3
+
+-- the number by which places are ordered: those of the mesh, the cloud's points, and the instances
+abbrev pub position_of_place : Place → ℕ
+position_of_place Point = 0
+position_of_place Edge = 1
+position_of_place Face = 2
+position_of_place Corner = 3
+position_of_place Cloud = 4
+position_of_place Instance = 5

@@ -1,5 +1,5 @@
 ghost use Rattle.std.specs.Prelude.{◌≡◌};
-ghost use Rattle.gn_value.specs.Values.{kind_of, zero_of};
+ghost use Rattle.gn_value.specs.Values.{kind_of, position_of, position_of_place, zero_of};
 
 use crate::fixed::Fx;
 use crate::vector::V3;
@@ -32,6 +32,24 @@ pub enum Place {
     Corner,
     Cloud,
     Instance,
+}
+
+impl ValueKind {
+    /// The number by which a conversion names the kind, from 0.
+    pub fn position(self) -> u8
+        ensures { result ≡ position_of self }
+    {
+        self as u8
+    }
+}
+
+impl Place {
+    /// The number by which places are ordered, from 0.
+    pub fn position(self) -> u8
+        ensures { result ≡ position_of_place self }
+    {
+        self as u8
+    }
 }
 
 impl Value {
