@@ -1,5 +1,5 @@
 -- The magnitude of a text without a sign, from what each step of the reading gives.
-use Rattle.std.proofs.Common.{◌≡◌, ℕ, ◌+◌, ◌*◌, ◌<◌, ◌≤◌, ◌^◌, min, List, [], ◌∷◌, length, drop, ℤ, pos, refl, ap, ◌∙◌, sym, arith, Some, option_map, lt-ltb, unsigned_abs, if◌then◌else◌}
+use Rattle.std.proofs.Common.{◌≡◌, ℕ, ◌+◌, ◌*◌, ◌<◌, ◌^◌, min, List, [], ◌∷◌, length, ℤ, pos, refl, arith, Some, option_map, lt-ltb, unsigned_abs, if◌then◌else◌}
 use Rattle.std.proofs.lemmas.List.{drop_all}
 use Rattle.std.proofs.lemmas.List.Folds.{length-prefix_len}
 use Rattle.std.specs.Char.{is_ascii_digit}

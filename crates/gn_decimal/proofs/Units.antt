@@ -1,5 +1,5 @@
 -- Units of 10 ^ -18, and the raw number nearest to them.
-use Rattle.std.proofs.Common.{◌≡◌, ℕ, ◌+◌, ◌-◌, ◌*◌, ◌/◌, ◌%◌, ◌^◌, ◌<◌, ◌≤◌, min, refl, ap, sym, ◌∙◌, inl, inr, arith, mul_assoc, mul-le-mul_right, mul-le-mul_left, eq-zero-or-pos, div-add-mod', mod-lt, mul-lt-mul_of_pos_right}
+use Rattle.std.proofs.Common.{◌≡◌, ℕ, ◌+◌, ◌-◌, ◌*◌, ◌/◌, ◌^◌, ◌<◌, ◌≤◌, min, refl, ap, sym, ◌∙◌, inl, inr, arith, mul_assoc, mul-le-mul_right, mul-le-mul_left, eq-zero-or-pos, mul-lt-mul_of_pos_right}
 use Rattle.std.proofs.Math.Nat.{div-div-eq-div-mul, div-mul-le_self, div-eq_of_eq-mul_left, one-le-pow, pow-le-pow_right, mul-div-mul_right, div-eq_of_lt, le_trans}
 use Rattle.std.proofs.lemmas.Bool.{cases_lt}
 use Rattle.std.proofs.lemmas.Nat.{pow-add, le-div}

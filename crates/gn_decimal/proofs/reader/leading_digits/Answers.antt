@@ -1,11 +1,8 @@
 use Rattle.std.proofs.Common.{ap, arith, length, min, sym, take_all, ◌≡◌, ◌∙◌}
 use Rattle.std.proofs.lemmas.List.Folds.{length-prefix_len}
 use Rattle.std.specs.Char.{is_ascii_digit}
-use Rattle.std.specs.Str.Parse.{digits_value}
-use Rattle.gn_decimal.specs.Decimal.{digits_of}
 use Rattle.gn_decimal.proofs.Digits.{digits_of-end, prefix_len_stop, value_below}
 use Rattle.gn_decimal.proofs.reader.leading_digits.Goals as goal
-
 
 pub returns-then-not-is_ascii_digit-clause-value : goal.returns-then-not-is_ascii_digit-clause-value
 returns-then-not-is_ascii_digit-clause-value c =

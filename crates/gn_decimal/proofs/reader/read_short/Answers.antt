@@ -1,8 +1,8 @@
-use Rattle.std.proofs.Common.{arith, ap, drop, length, sym, ◌∙◌, ◌∷◌, ◌≡◌, ◌<◌, min, ◌+◌, ◌*◌, ◌^◌}
+use Rattle.std.proofs.Common.{arith, ap, drop, length, sym, ◌∙◌, ◌∷◌, ◌≡◌}
 use Rattle.std.proofs.lemmas.List.{take_rest}
 use Rattle.std.proofs.lemmas.List.Folds.{length-prefix_len}
 use Rattle.std.specs.Char.{is_ascii_digit}
-use Rattle.gn_decimal.specs.Decimal.{after_digits, digits_of, raw_of, units}
+use Rattle.gn_decimal.specs.Decimal.{after_digits, digits_of}
 use Rattle.gn_decimal.proofs.Reading.{magnitude_of_short, magnitude_of_whole}
 use Rattle.gn_decimal.proofs.reader.read_short.Goals as goal
 

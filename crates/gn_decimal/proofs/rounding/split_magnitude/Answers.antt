@@ -1,4 +1,4 @@
-use Rattle.std.proofs.Common.{arith, div-add-mod', mod-lt}
+use Rattle.std.proofs.Common.{arith, mod-lt}
 use Rattle.gn_decimal.proofs.Units.{pow_ten_pos}
 use Rattle.gn_decimal.proofs.rounding.split_magnitude.Goals as goal
 
