@@ -8,6 +8,7 @@ use std::collections::BTreeSet;
 /// Up to so many vertices are compared with each other.
 const FEW: usize = 16;
 
+#[inline(always)]
 fn few_differ(vertices: &[u32]) -> bool
     ensures { result ≡ all_differ vertices.now }
 {
@@ -21,6 +22,8 @@ fn few_differ(vertices: &[u32]) -> bool
     true
 }
 
+#[cold]
+#[inline(never)]
 fn many_differ(alloc: Global, vertices: &[u32]) -> Result<bool, Memory>
     ensures { IfOk result (λ differ. differ ≡ all_differ vertices.now) }
 {
@@ -34,6 +37,7 @@ fn many_differ(alloc: Global, vertices: &[u32]) -> Result<bool, Memory>
 }
 
 /// Whether no vertex stands twice in a row.
+#[inline(always)]
 pub(crate) fn are_different(alloc: Global, vertices: &[u32]) -> Result<bool, Memory>
     ensures { IfOk result (λ differ. differ ≡ all_differ vertices.now) }
 {
