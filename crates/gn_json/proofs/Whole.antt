@@ -16,7 +16,7 @@ use Rattle.gn_kinds.specs.Row.{Text, KindRow}
 use Rattle.gn_kinds.specs.Table.{any_kind, row_of_kind}
 use Rattle.gn_pointers.specs.Pointers.{index, key, IsFirst}
 use Rattle.gn_form.specs.Constant.{constant_as, constant_in, three_numbers}
-use Rattle.gn_form.specs.Text.{is_id, is_column_name, is_file_name, is_word}
+use Rattle.gn_kinds.specs.Text.{is_id, is_column_name, is_file_name, is_word}
 use Rattle.gn_form.specs.Form as form
 use Rattle.gn_form.specs.Form.{Form, Key, needs, may_have, named, fits, is_text, is_known, are_there, are_links, keys_of, node_keys, member_form, setting_key, row_in_node, BreaksForm}
 use Rattle.gn_form.specs.Order.{InOrder}
