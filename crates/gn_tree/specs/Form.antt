@@ -3,6 +3,7 @@
 use Rattle.std.specs.Prelude.{◌≡◌, Bool, true, false, not, ◌&&◌, ◌||◌, ◌==◌, List, [], ◌∷◌, is_some}
 use Rattle.std.specs.Option.{option_map_or}
 use Rattle.std.specs.List.{list_all, filter}
+use Rattle.std.proofs.Props.{props}
 use Rattle.gn_value.specs.declared.value.Value.{Value}
 use Rattle.gn_value.specs.declared.value.Value.TheVariants as v
 use Rattle.gn_value.specs.declared.value.ValueKind.{ValueKind}
@@ -13,7 +14,7 @@ use Rattle.gn_kinds.specs.Row.{KindRow, has_input}
 use Rattle.gn_kinds.specs.Table.{row_of_kind}
 use Rattle.gn_kinds.specs.Text.{is_id, is_column_name, is_file_name, is_word}
 use Rattle.gn_tree.specs.Trees.{Link, Input, constant, link, links, Named, Socket, Setting, of_kind, op, place, clamp, a_name, file, value, of_group, Node, node, Settings, no_settings, and_setting, and_zone, Nodes, no_nodes, and_node, Group, Tree}
-use Rattle.gn_tree.specs.Rising.{NamesRiseInTree}
+use Rattle.gn_tree.specs.Rising.{NamesRiseInTree, NamesRiseInTree-prop}
 
 -- ---- sockets and inputs
 
@@ -95,3 +96,7 @@ tree_fits t = (t.format == 1) && list_all group_fits t.groups && nodes_fit t.nod
 -- all that stands in the tree is of its form, and names rise by their bytes
 abbrev pub IsOfForm : Tree → Type 0
 IsOfForm t = (tree_fits t ≡ true) × NamesRiseInTree t
+
+-- a tree is of its form in one way alone
+pub IsOfForm-prop : (t : Tree) → IsProp (IsOfForm t)
+IsOfForm-prop t = Prim.hlevel (props, NamesRiseInTree-prop)
