@@ -172,7 +172,7 @@ rise_in_tree d h = (rise_in_groups_found (get (codes "groups") d) (get_in_order 
 -- ---- what is read of bytes
 
 -- the tree that was read is the one that is made of the value
-made_of : (bytes : List ℕ) (t : Tree) (d : Data) → FirstMisfit bytes d None → tree_from d ≡ Some (tree_of t) → tree_in d ≡ tree_of t
+pub made_of : (bytes : List ℕ) (t : Tree) (d : Data) → FirstMisfit bytes d None → tree_from d ≡ Some (tree_of t) → tree_in d ≡ tree_of t
 made_of bytes t d h e = same_some (tree_in d) (tree_of t) (sym (tree_is_whole d (json_in_order bytes d h.0) h.1) ∙ e)
 
 pub read_rises : (bytes : List ℕ) (r : Result Tree JsonFault) → Answers bytes r → IfOk r (λ t. NamesRiseInTree (tree_of t))

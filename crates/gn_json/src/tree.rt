@@ -1,7 +1,7 @@
 ghost use Rattle.std.specs.Prelude.{◌≡◌, IfOk, map, option_map};
 ghost use Rattle.serde_json.specs.View.{view, items_view};
+ghost use Rattle.gn_tree.specs.Form.{IsOfForm};
 ghost use Rattle.gn_tree.specs.Seen as seen;
-ghost use Rattle.gn_tree.specs.Rising.{NamesRiseInTree};
 ghost use Rattle.gn_json.specs.Typed as typed;
 ghost use Rattle.gn_json.specs.Answers.{Answers, IsTreeWhereFit, Judged};
 
@@ -133,8 +133,10 @@ fn judge(
 }
 
 /// Reads a tree from the bytes of its JSON text. All that is in the tree stands in the text: the value
-/// of each key that must be there, of its shape. The inputs of each node, and what each zone and each
-/// group gives out, stand in the order of their names' bytes.
+/// of each key that must be there, of its shape. The tree is of its form: the names and the kinds in it
+/// are ones that may stand there, the settings of a node are those of its kind's row, in their order and
+/// with values that the row allows, and the inputs of each node, and what each zone and each group gives
+/// out, stand in the order of their names' bytes.
 ///
 /// # Errors
 ///
@@ -144,7 +146,7 @@ fn judge(
 pub fn read(alloc: Global, bytes: &[u8]) -> Result<Tree, JsonFault>
     ensures answers { Answers bytes.now result }
     ensures whole { IsTreeWhereFit bytes.now }
-    ensures rising { IfOk result (λ tree. NamesRiseInTree (seen.tree_of tree)) }
+    ensures formed { IfOk result (λ tree. IsOfForm (seen.tree_of tree)) }
 {
     match Value::from_slice(alloc, bytes) {
         Ok(value) => judge(alloc, &value, first_misfit(alloc, &value)),

@@ -1,4 +1,4 @@
--- The texts that stand in a tree.
+-- The texts that stand in a tree: ids, and the names of columns and files.
 use Rattle.std.specs.Prelude.{ℕ, Bool, not, ◌&&◌, ◌||◌, ◌==◌, nat_le, nat_lt, length, codes, bytes_eq}
 use Rattle.std.specs.List.{list_all, list_any}
 use Rattle.std.specs.Prelude.{List}
