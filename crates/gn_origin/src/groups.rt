@@ -111,7 +111,7 @@ impl<'t> Lists<'t> {
     }
 
     /// The first group with that name.
-    pub(crate) fn group(&self, name: &str) -> Option<&GroupList<'t>>
+    pub(crate) fn group<'s>(&'s self, name: &str) -> Option<&'s GroupList<'t>>
         ensures { HasGroups self.now → IsNamed (map group_of self.now.tree.now.groups.items) name.now result }
     {
         let number = self.names.first(name)?;
@@ -120,7 +120,7 @@ impl<'t> Lists<'t> {
     }
 
     /// The tree's own list.
-    pub(crate) fn own(&self) -> List<'_>
+    pub(crate) fn own<'s>(&'s self) -> List<'s, 't>
         requires { HasForm (tree_of self.now.tree.now) × HasGroups self.now }
         ensures { (result.lists.now ≡ self.now) × IsAt result [] }
     {
@@ -133,7 +133,7 @@ impl<'t> Lists<'t> {
     }
 
     /// The list of a group.
-    fn inside<'s>(&'s self, group: &'s GroupList<'s>) -> List<'s>
+    fn inside<'s>(&'s self, group: &'s GroupList<'t>) -> List<'s, 't>
         ensures same { result.lists.now ≡ self.now }
         ensures nodes { result.nodes.now ≡ group.now.group.now.nodes.items }
         ensures entries { result.entries.now.list.now ≡ group.now.group.now.inputs.items }
@@ -147,7 +147,7 @@ impl<'t> Lists<'t> {
     }
 
     /// The list at the end of a way, of which the innermost group node is the first.
-    pub(crate) fn at_end<'s>(&'s self, frames: &VecDeque<Frame<'s>>) -> List<'s>
+    pub(crate) fn at_end<'s>(&'s self, frames: &VecDeque<Frame<'s, 't>>) -> List<'s, 't>
         requires { AreOpen (tree_of self.now.tree.now) frames.now.items × HasForm (tree_of self.now.tree.now) × HasGroups self.now }
         ensures { (result.lists.now ≡ self.now) × IsAt result frames.now.items }
     {

@@ -15,19 +15,19 @@ use std::alloc::Global;
 
 /// A list of nodes, with what is looked up in it by name.
 #[derive(Clone, Copy)]
-pub(crate) struct List<'s> {
-    pub(crate) nodes: &'s [Node],
-    pub(crate) ids: &'s Names<'s>,
+pub(crate) struct List<'s, 't> {
+    pub(crate) nodes: &'t [Node],
+    pub(crate) ids: &'s Names<'t>,
     /// What links from `input` may name.
-    pub(crate) entries: &'s Sockets<'s>,
-    pub(crate) lists: &'s Lists<'s>,
+    pub(crate) entries: &'s Sockets<'t>,
+    pub(crate) lists: &'s Lists<'t>,
     ghost with_ids: { ids.now ≡ named.ids (nodes_of nodes.now) },
 }
 
 /// What a node is.
 #[derive(Clone, Copy)]
-pub(crate) enum Part<'s> {
-    Group(&'s GroupList<'s>),
+pub(crate) enum Part<'s, 't> {
+    Group(&'s GroupList<'t>),
     SetPosition,
     /// A node of another kind.
     Other,
@@ -35,9 +35,9 @@ pub(crate) enum Part<'s> {
 
 /// What the settings of a node hold.
 #[derive(Clone, Copy)]
-pub(crate) enum Inside<'s> {
+pub(crate) enum Inside<'s, 't> {
     Nothing,
-    Group(&'s GroupList<'s>),
+    Group(&'s GroupList<'t>),
     Zone,
 }
 
@@ -88,7 +88,7 @@ fn written<'t>(inputs: &'t [(String, TreeInput)], name: &str) -> Option<&'t Tree
     None
 }
 
-impl<'s> List<'s> {
+impl<'s, 't> List<'s, 't> {
     ghost use Rattle.std.specs.Prelude.{◌≡◌, ℕ, Some, map, slice_get};
     ghost use Rattle.gn_kinds.specs.Row.{Text};
     ghost use Rattle.gn_tree.specs.Seen.{input_of, link_of, named_of, settings_of, socket_of};
@@ -101,7 +101,7 @@ impl<'s> List<'s> {
     ghost use Rattle.gn_origin.specs.Reading.{scope_of, tree_by, IsAt, IsRead, node_read, one_read, named_read};
 
     /// What a setting holds, if it holds nodes; a group that there is not holds nothing.
-    fn inside_setting(self, setting: &Setting) -> Option<Inside<'s>>
+    fn inside_setting(self, setting: &Setting) -> Option<Inside<'s, 't>>
         ensures { HasGroups self.entry.lists.now → (above : ℕ) → HoldsFirst (scope_of self.entry above) setting.now result }
     {
         match setting {
@@ -115,7 +115,7 @@ impl<'s> List<'s> {
     }
 
     /// What the first setting holds that holds nodes.
-    fn inside(self, settings: &[Setting]) -> Inside<'s>
+    fn inside(self, settings: &[Setting]) -> Inside<'s, 't>
         ensures { HasGroups self.entry.lists.now → (above : ℕ) (kind : Text) → Holds (scope_of self.entry above) kind (settings_of settings.now) result }
     {
         for setting in settings {
@@ -126,7 +126,7 @@ impl<'s> List<'s> {
         Inside::Nothing
     }
 
-    pub(crate) fn part(self, node: &Node) -> Part<'s>
+    pub(crate) fn part(self, node: &Node) -> Part<'s, 't>
         ensures { HasGroups self.entry.lists.now → (above : ℕ) → NodeHasForm node.now → IsPart (scope_of self.entry above) node.now result }
     {
         match self.inside(settings_of(node)) {
@@ -150,10 +150,10 @@ impl<'s> List<'s> {
     fn node_read(
         self,
         number: usize,
-        node: &'s Node,
+        node: &'t Node,
         kind: SocketKind,
         name: &str,
-    ) -> Option<Read<'s>>
+    ) -> Option<Read<'s, 't>>
         requires { slice_get self.nodes.now number ≡ Some node.now }
         ensures { (fs : Frames) (at : IsAt self.entry fs)
             → IsRead (tree_by self.entry) fs result (node_read at.body.scope (way_of fs) kind number node.now name.now) }
@@ -184,7 +184,7 @@ impl<'s> List<'s> {
         }
     }
 
-    fn link_read(self, kind: SocketKind, link: &TreeLink) -> Option<Read<'s>>
+    fn link_read(self, kind: SocketKind, link: &TreeLink) -> Option<Read<'s, 't>>
         ensures { (fs : Frames) (at : IsAt self.entry fs)
             → IsRead (tree_by self.entry) fs result (link_read at.body.scope (way_of fs) kind (link_of link.now)) }
     {
@@ -198,7 +198,7 @@ impl<'s> List<'s> {
     }
 
     /// What an input of that kind reads, with what is written to it.
-    pub(crate) fn input_read(self, kind: SocketKind, input: &TreeInput) -> Option<Read<'s>>
+    pub(crate) fn input_read(self, kind: SocketKind, input: &TreeInput) -> Option<Read<'s, 't>>
         ensures { (fs : Frames) (at : IsAt self.entry fs)
             → IsRead (tree_by self.entry) fs result (one_read at.body.scope (way_of fs) kind (input_of input.now)) }
     {
@@ -216,7 +216,7 @@ impl<'s> List<'s> {
         name: &str,
         kind: SocketKind,
         default: Constant,
-    ) -> Option<Read<'s>>
+    ) -> Option<Read<'s, 't>>
         ensures { (fs : Frames) (at : IsAt self.entry fs)
             → IsRead (tree_by self.entry) fs result (named_read at.body.scope (way_of fs) (map named_of inputs.now) name.now kind (constant_of default)) }
     {
@@ -231,7 +231,7 @@ impl<'s> List<'s> {
         self,
         inputs: &[(String, TreeInput)],
         socket: &Socket,
-    ) -> Option<Read<'s>>
+    ) -> Option<Read<'s, 't>>
         ensures { (fs : Frames) (at : IsAt self.entry fs)
             → IsRead (tree_by self.entry) fs result (named_read at.body.scope (way_of fs) (map named_of inputs.now) (socket_of socket.now).name socket.now.kind (zero_at socket.now.kind)) }
     {

@@ -79,7 +79,7 @@ struct Carried {
 }
 
 /// The constant that the walk ended at.
-fn constant(end: Walk<'_>) -> Option<Carried>
+fn constant(end: Walk<'_, '_>) -> Option<Carried>
     ensures { option_map carried_of result ≡ carried_by end.entry }
 {
     match end.site {
@@ -93,7 +93,7 @@ fn constant(end: Walk<'_>) -> Option<Carried>
 }
 
 /// The truth that the walk ended at, and how many conversions it went through.
-fn truth_of(end: Walk<'_>) -> Option<(bool, usize)>
+fn truth_of(end: Walk<'_, '_>) -> Option<(bool, usize)>
     ensures { result ≡ option_and_then truth_in (carried_by end.entry) }
 {
     let carried = constant(end)?;
@@ -104,7 +104,7 @@ fn truth_of(end: Walk<'_>) -> Option<(bool, usize)>
 }
 
 /// The vector that the walk ended at, and how many conversions it went through.
-fn vector_of(end: Walk<'_>) -> Option<(V3, usize)>
+fn vector_of(end: Walk<'_, '_>) -> Option<(V3, usize)>
     ensures { result ≡ option_and_then vector_in (carried_by end.entry) }
 {
     let carried = constant(end)?;
@@ -116,7 +116,7 @@ fn vector_of(end: Walk<'_>) -> Option<(V3, usize)>
 
 /// The position that the walk ended at, none where it is each point's own, and how many conversions it
 /// went through.
-fn position_of(end: Walk<'_>) -> Option<(Option<V3>, usize)>
+fn position_of(end: Walk<'_, '_>) -> Option<(Option<V3>, usize)>
     ensures { result ≡ position_by end.entry }
 {
     match end.site {
@@ -134,7 +134,7 @@ fn position_of(end: Walk<'_>) -> Option<(Option<V3>, usize)>
 }
 
 /// Whether the walk ended at the tree's input.
-fn is_input(end: &Walk<'_>) -> bool
+fn is_input(end: &Walk<'_, '_>) -> bool
     ensures { result ≡ input_at end.now.site (map kind_number end.now.conversions.items) }
 {
     match end.site {
@@ -144,12 +144,12 @@ fn is_input(end: &Walk<'_>) -> bool
 }
 
 /// Where what is read from the list at the end of the way comes from.
-fn end_of<'s>(
+fn end_of<'s, 't>(
     alloc: Global,
-    lists: &'s Lists<'s>,
-    frames: &VecDeque<Frame<'s>>,
-    read: Option<Read<'s>>,
-) -> Result<Option<Walk<'s>>, Memory>
+    lists: &'s Lists<'t>,
+    frames: &VecDeque<Frame<'s, 't>>,
+    read: Option<Read<'s, 't>>,
+) -> Result<Option<Walk<'s, 't>>, Memory>
     ghost steps: { ℕ }
     requires rules { IsReady lists.now frames.now.items }
     requires reads { (r : sites.Read) × IsRead (tree_of lists.now.tree.now) frames.now.items read r × IsFoundBelow (tree_of lists.now.tree.now) steps r.from }
@@ -187,14 +187,14 @@ fn limited(
 
 /// What the inputs of a Set Position read.
 #[derive(Clone, Copy)]
-struct Inputs<'s> {
-    geometry: Option<Read<'s>>,
-    selection: Option<Read<'s>>,
-    position: Option<Read<'s>>,
-    offset: Option<Read<'s>>,
+struct Inputs<'s, 't> {
+    geometry: Option<Read<'s, 't>>,
+    selection: Option<Read<'s, 't>>,
+    position: Option<Read<'s, 't>>,
+    offset: Option<Read<'s, 't>>,
 }
 
-fn inputs_read<'s>(list: List<'s>, node: &Node) -> Inputs<'s>
+fn inputs_read<'s, 't>(list: List<'s, 't>, node: &Node) -> Inputs<'s, 't>
     ensures { (fs : Frames) (at : IsAt list.entry fs) → NamesRead (tree_by list.entry) fs at.body.scope (inputs_in node.now) result }
 {
     let inputs = inputs_of(node);
@@ -214,11 +214,11 @@ fn inputs_read<'s>(list: List<'s>, node: &Node) -> Inputs<'s>
 }
 
 /// The constants of a Set Position that is in the list at the end of the way.
-fn constants<'s>(
+fn constants<'s, 't>(
     alloc: Global,
-    lists: &'s Lists<'s>,
-    frames: &VecDeque<Frame<'s>>,
-    inputs: Inputs<'s>,
+    lists: &'s Lists<'t>,
+    frames: &VecDeque<Frame<'s, 't>>,
+    inputs: Inputs<'s, 't>,
 ) -> Result<Option<Plan>, Memory>
     ghost steps: { ℕ }
     requires rules { IsReady lists.now frames.now.items }
@@ -248,10 +248,10 @@ fn constants<'s>(
 
 /// The plan of a tree that gives out what a Set Position makes, which is in the list at the end of
 /// the way.
-fn moved<'s>(
+fn moved<'s, 't>(
     alloc: Global,
-    lists: &'s Lists<'s>,
-    frames: &VecDeque<Frame<'s>>,
+    lists: &'s Lists<'t>,
+    frames: &VecDeque<Frame<'s, 't>>,
     node: &Node,
 ) -> Result<Option<Plan>, Memory>
     ghost steps: { ℕ }
@@ -270,7 +270,7 @@ fn moved<'s>(
 }
 
 /// What the tree gives out reads.
-fn output_read<'s>(lists: &'s Lists<'s>) -> Option<Read<'s>>
+fn output_read<'s, 't>(lists: &'s Lists<'t>) -> Option<Read<'s, 't>>
     requires { IsReady lists.now [] }
     ensures { IsRead (tree_of lists.now.tree.now) [] result (output_read (tree_of lists.now.tree.now)) }
 {
@@ -281,7 +281,7 @@ fn output_read<'s>(lists: &'s Lists<'s>) -> Option<Read<'s>>
 }
 
 /// The plan of a tree, by where the walk from its output ended.
-fn plan_at<'s>(alloc: Global, lists: &'s Lists<'s>, end: Walk<'s>) -> Result<Option<Plan>, Memory>
+fn plan_at<'s, 't>(alloc: Global, lists: &'s Lists<'t>, end: Walk<'s, 't>) -> Result<Option<Plan>, Memory>
     ghost steps: { ℕ }
     requires rules { IsReady lists.now [] }
     requires found { IsBounded (tree_of lists.now.tree.now) steps }
@@ -299,7 +299,7 @@ fn plan_at<'s>(alloc: Global, lists: &'s Lists<'s>, end: Walk<'s>) -> Result<Opt
     }
 }
 
-fn plan_by<'s>(alloc: Global, lists: &'s Lists<'s>) -> Result<Option<Plan>, Memory>
+fn plan_by<'s, 't>(alloc: Global, lists: &'s Lists<'t>) -> Result<Option<Plan>, Memory>
     requires { IsReady lists.now [] }
     ensures { IfOk result (Answers (tree_of lists.now.tree.now)) }
 {
@@ -308,13 +308,6 @@ fn plan_by<'s>(alloc: Global, lists: &'s Lists<'s>) -> Result<Option<Plan>, Memo
         return Ok(None);
     };
     plan_at(alloc, lists, end)
-}
-
-fn plan_in(alloc: Global, lists: &Lists<'_>) -> Result<Option<Plan>, Memory>
-    requires { IsReady lists.now [] }
-    ensures { IfOk result (Answers (tree_of lists.now.tree.now)) }
-{
-    plan_by(alloc, &*lists)
 }
 
 /// The socket by which a tree takes its input.
@@ -340,5 +333,5 @@ pub fn find_plan(alloc: Global, tree: &GoodTree) -> Result<Option<Plan>, Memory>
 {
     let entries = own_entries(alloc)?;
     let lists = Lists::new(alloc, tree.tree(), &entries)?;
-    plan_in(alloc, &lists)
+    plan_by(alloc, &lists)
 }

@@ -21,30 +21,30 @@ pub(crate) enum Constant {
 
 /// Where a value stands, seen from a list of nodes.
 #[derive(Clone, Copy)]
-pub(crate) enum Site<'s> {
+pub(crate) enum Site<'s, 't> {
     /// An output of a group node, by its number, with its socket.
     Group {
-        frame: Frame<'s>,
+        frame: Frame<'s, 't>,
         output: usize,
-        socket: &'s Socket,
+        socket: &'t Socket,
     },
     /// The geometry of the Set Position that has that number in the list.
     Moved {
         number: usize,
-        node: &'s Node,
+        node: &'t Node,
     },
     /// An input of the list, by its number, with its socket.
     Entry {
         number: usize,
-        socket: &'s Socket,
+        socket: &'t Socket,
     },
     Constant(Constant),
 }
 
 /// What an input reads: where the value stands, and the kind of the input's socket where it is another.
 #[derive(Clone, Copy)]
-pub(crate) struct Read<'s> {
-    pub(crate) site: Site<'s>,
+pub(crate) struct Read<'s, 't> {
+    pub(crate) site: Site<'s, 't>,
     pub(crate) conversion: Option<SocketKind>,
 }
 
@@ -85,7 +85,7 @@ pub(crate) fn conversion(from: SocketKind, to: SocketKind) -> Option<SocketKind>
 }
 
 /// A value at a site of one kind, read by a socket of another.
-pub(crate) fn passed(site: Site<'_>, from: SocketKind, to: SocketKind) -> Read<'_>
+pub(crate) fn passed<'s, 't>(site: Site<'s, 't>, from: SocketKind, to: SocketKind) -> Read<'s, 't>
     ensures site { result.site ≡ site.entry }
     ensures through { kinds_of result.conversion ≡ reads.passed from to }
 {
@@ -95,7 +95,7 @@ pub(crate) fn passed(site: Site<'_>, from: SocketKind, to: SocketKind) -> Read<'
     }
 }
 
-pub(crate) fn plain(constant: Constant) -> Read<'static>
+pub(crate) fn plain<'s, 't>(constant: Constant) -> Read<'s, 't>
     ensures site { result.site ≡ variant.Constant constant }
     ensures plain { result.conversion ≡ None }
 {

@@ -14,19 +14,19 @@ use std::collections::VecDeque;
 
 /// A group node, with its number in its list.
 #[derive(Clone, Copy)]
-pub(crate) struct Frame<'s> {
+pub(crate) struct Frame<'s, 't> {
     pub(crate) number: usize,
-    pub(crate) node: &'s Node,
-    pub(crate) group: &'s GroupList<'s>,
+    pub(crate) node: &'t Node,
+    pub(crate) group: &'s GroupList<'t>,
 }
 
 /// Where a walk along links stands.
 #[derive(Drop)]
-pub(crate) struct Walk<'s> {
-    pub(crate) lists: &'s Lists<'s>,
+pub(crate) struct Walk<'s, 't> {
+    pub(crate) lists: &'s Lists<'t>,
     /// The group nodes that were entered, the innermost first.
-    pub(crate) frames: VecDeque<Frame<'s>>,
-    pub(crate) site: Site<'s>,
+    pub(crate) frames: VecDeque<Frame<'s, 't>>,
+    pub(crate) site: Site<'s, 't>,
     /// The conversions on the way, that next to the site first.
     pub(crate) conversions: VecDeque<SocketKind>,
 }
@@ -42,10 +42,10 @@ pub(crate) enum Progress {
     Lost,
 }
 
-fn copied<'s>(alloc: Global, frames: &VecDeque<Frame<'s>>) -> Result<VecDeque<Frame<'s>>, Memory>
+fn copied<'s, 't>(alloc: Global, frames: &VecDeque<Frame<'s, 't>>) -> Result<VecDeque<Frame<'s, 't>>, Memory>
     ensures { IfOk result (λ copy. copy.items ≡ frames.now.items) }
 {
-    let copy: Vec<Frame<'s>> = frames.iter().copied().collect(alloc)?;
+    let copy: Vec<Frame<'s, 't>> = frames.iter().copied().collect(alloc)?;
     Ok(VecDeque::from_vec(copy))
 }
 
@@ -59,7 +59,7 @@ fn first_conversion(alloc: Global, kind: Option<SocketKind>) -> Result<VecDeque<
     Ok(conversions)
 }
 
-impl<'s> Walk<'s> {
+impl<'s, 't> Walk<'s, 't> {
     ghost use Rattle.std.specs.Prelude.{◌≡◌, ℕ, IfOk};
     ghost use Rattle.gn_tree.specs.Seen.{tree_of};
     ghost use Rattle.gn_origin.specs.declared.read.Site.TheVariants as site;
@@ -73,10 +73,10 @@ impl<'s> Walk<'s> {
     /// A walk from what is read in the list at the end of a way.
     pub(crate) fn start(
         alloc: Global,
-        lists: &'s Lists<'s>,
-        frames: &VecDeque<Frame<'s>>,
-        read: Read<'s>,
-    ) -> Result<Walk<'s>, Memory>
+        lists: &'s Lists<'t>,
+        frames: &VecDeque<Frame<'s, 't>>,
+        read: Read<'s, 't>,
+    ) -> Result<Walk<'s, 't>, Memory>
         requires rules { KeepsRules (tree_of lists.now.tree.now) × HasForm (tree_of lists.now.tree.now) × HasGroups lists.now }
         requires ways { AreOpen (tree_of lists.now.tree.now) frames.now.items × IsThere (tree_of lists.now.tree.now) frames.now.items read.site }
         ensures { IfOk result (λ walk. (walk.lists.now ≡ lists.now) × (read_by walk ≡ read_of (way_of frames.now.items) read.entry) × Stands walk) }
@@ -89,7 +89,7 @@ impl<'s> Walk<'s> {
         })
     }
 
-    fn go_on(&mut self, read: Option<Read<'s>>) -> Result<Progress, Memory>
+    fn go_on(&mut self, read: Option<Read<'s, 't>>) -> Result<Progress, Memory>
         ensures { IfOk result (λ progress. GoesOn self.old self.new read.entry progress) }
     {
         let Some(read) = read else {
@@ -102,7 +102,7 @@ impl<'s> Walk<'s> {
         Ok(Progress::Moved)
     }
 
-    fn enter(&mut self, frame: Frame<'s>, socket: &'s Socket) -> Result<Progress, Memory>
+    fn enter(&mut self, frame: Frame<'s, 't>, socket: &'t Socket) -> Result<Progress, Memory>
         requires stands { Stands self.old }
         requires at { (output : ℕ) × (self.old.site ≡ site.Group frame output socket) }
         ensures { IfOk result (λ progress. Steps self.old self.new progress) }
@@ -112,7 +112,7 @@ impl<'s> Walk<'s> {
         self.go_on(list.socket_read(&frame.group.group.output, socket))
     }
 
-    fn leave(&mut self, socket: &'s Socket) -> Result<Progress, Memory>
+    fn leave(&mut self, socket: &'t Socket) -> Result<Progress, Memory>
         requires stands { Stands self.old }
         requires at { (number : ℕ) × (self.old.site ≡ site.Entry number socket) }
         ensures { IfOk result (λ progress. Steps self.old self.new progress) }
@@ -137,7 +137,7 @@ impl<'s> Walk<'s> {
 }
 
 /// Where the value comes from.
-pub(crate) fn follow<'s>(mut walk: Walk<'s>) -> Result<Option<Walk<'s>>, Memory>
+pub(crate) fn follow<'s, 't>(mut walk: Walk<'s, 't>) -> Result<Option<Walk<'s, 't>>, Memory>
     ghost steps: { ℕ }
     requires stands { Stands walk }
     requires found { IsFoundBelow (tree_by walk) steps (read_by walk).from }

@@ -4,4 +4,4 @@ use Rattle.gn_origin.specs.Answers.{Answers}
 use Rattle.gn_origin.proofs.plans.find_plan.Goals as goal
 
 pub returns : goal.returns
-returns c = subst (λ x. IfOk c.plan_in.result (Answers x)) (ap tree_of c.in_ok-lists.ensures.0 ∙ c.tree.ensures.same) c.plan_in.ensures
+returns c = subst (λ x. IfOk c.plan_by.result (Answers x)) (ap tree_of c.in_ok-lists.ensures.0 ∙ c.tree.ensures.same) c.plan_by.ensures
