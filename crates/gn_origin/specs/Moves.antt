@@ -7,6 +7,8 @@ use Rattle.gn_tree.specs.Trees.{Tree}
 use Rattle.gn_meaning.specs.Sites.{a_value, a_leaf, its_position, no_geometry, zero_at, at_output, Read, plain_read}
 use Rattle.gn_meaning.specs.Reads.{kind_number, read_at, Run, a_node, part_at}
 use Rattle.gn_origin.specs.declared.plans.Plan.{Plan as CodePlan}
+use Rattle.gn_origin.specs.declared.plans.Plan.TheVariants.{Empty}
+use Rattle.gn_origin.specs.declared.read.Constant.{Constant}
 use Rattle.gn_origin.specs.declared.plans.Inputs.{Inputs}
 use Rattle.gn_origin.specs.declared.plans.Carried.{Carried}
 use Rattle.gn_origin.specs.declared.walk.Walk.{Walk}
@@ -108,6 +110,11 @@ pub record IsReady (lists : Lists) (fs : Frames) : Type 0 where
 abbrev pub input_at : Site → List ℕ → Bool
 input_at (site.Entry n s) kinds = length kinds == 0
 input_at _ kinds = false
+
+-- what a tree asks for that gives out a constant
+abbrev pub constant_plan : Constant → Option CodePlan
+constant_plan constant.NoGeometry = Some Empty
+constant_plan _ = None
 
 -- what the code reads by the names of a Set Position's inputs
 pub record NamesRead (t : Tree) (fs : Frames) (s : Scope) (inputs : List Named) (x : Inputs) : Type 0 where

@@ -13,6 +13,7 @@ ghost use Rattle.gn_origin.specs.Reading.{IsAt, IsRead, tree_by};
 ghost use Rattle.gn_origin.specs.Walking.{IsFoundBelow};
 ghost use Rattle.gn_origin.specs.Plans as plans;
 ghost use Rattle.gn_origin.specs.Plans.{kind_of_number};
+ghost use Rattle.gn_origin.specs.Moves as moves;
 ghost use Rattle.gn_origin.specs.Moves.{EndsAt, Limits, IsReady, AreRead, NamesRead, AreFoundBelow, IsBounded, IsMoveOf, ConstantsAre, MovesAs, carried_by, carried_of, truth_in, vector_in, position_by, input_at};
 
 use crate::groups::Lists;
@@ -280,6 +281,16 @@ fn output_read<'s, 't>(lists: &'s Lists<'t>) -> Option<Read<'s, 't>>
     }
 }
 
+/// The plan of a tree that gives out a constant.
+fn constant_plan(constant: Constant) -> Option<Plan>
+    ensures { result ≡ moves.constant_plan constant }
+{
+    match constant {
+        Constant::NoGeometry => Some(Plan::Empty),
+        _ => None,
+    }
+}
+
 /// The plan of a tree, by where the walk from its output ended.
 fn plan_at<'s, 't>(alloc: Global, lists: &'s Lists<'t>, end: Walk<'s, 't>) -> Result<Option<Plan>, Memory>
     ghost steps: { ℕ }
@@ -292,10 +303,10 @@ fn plan_at<'s, 't>(alloc: Global, lists: &'s Lists<'t>, end: Walk<'s, 't>) -> Re
         return Ok(None);
     }
     match end.site {
-        Site::Constant(Constant::NoGeometry) => Ok(Some(Plan::Empty)),
+        Site::Constant(constant) => Ok(constant_plan(constant)),
         Site::Entry { .. } => Ok(Some(Plan::Input)),
         Site::Moved { node, .. } => moved(alloc, lists, &end.frames, node),
-        _ => Ok(None),
+        Site::Group { .. } => Ok(None),
     }
 }
 

@@ -3,7 +3,7 @@ use Rattle.gn_tree.specs.Seen.{tree_of}
 use Rattle.gn_value.specs.declared.value.Value.TheVariants.{Truth as truth, Vector as vector}
 use Rattle.gn_meaning.specs.Reads.{read_at}
 use Rattle.gn_origin.specs.Moves.{EndsAt}
-use Rattle.gn_origin.proofs.Carrying.{none_carried, none_moved, truth_only, vector_only, both_ways}
+use Rattle.gn_origin.proofs.Carrying.{none_carried, none_moved, truth_only, position_only, vector_only, constants_are, both_ways}
 use Rattle.gn_origin.proofs.plans.constants.Goals as goal
 
 pub returns-in_default : goal.returns-in_default
@@ -23,7 +23,10 @@ returns-in_default-2 g c run reads selected to by has =
     none_moved t (read_at run.reads 2) (subst (EndsAt t (read_at run.reads 2)) c.in_default-2.is (c.in_ok-end-2.ensures (read_at run.reads 2) reads.position)) to has.positions has.position
 
 pub returns-in_default-position_of : goal.returns-in_default-position_of
-returns-in_default-position_of g c run reads selected to by has = ?
+returns-in_default-position_of g c run reads selected to by has =
+    let t = tree_of c.args.lists.now.tree.now in
+    let ends : EndsAt (tree_of c.args.lists.now.tree.now) (read_at run.reads 2) (Some c.in-Some-2.end) = subst (EndsAt t (read_at run.reads 2)) c.in-Some-2.is (c.in_ok-end-2.ensures (read_at run.reads 2) reads.position) in
+    both_ways (sym c.position_of.ensures ∙ c.in_default-position_of.is) (position_only t (read_at run.reads 2) c.in-Some-2.end ends to has.positions has.position)
 
 pub returns-in_default-3 : goal.returns-in_default-3
 returns-in_default-3 g c run reads selected to by has =
@@ -37,4 +40,10 @@ returns-in_default-vector_of g c run reads selected to by has =
     both_ways (sym c.vector_of.ensures ∙ c.in_default-vector_of.is) (vector_only t (read_at run.reads 3) c.in-Some-3.end ends by has.offsets has.offset)
 
 pub returns : goal.returns
-returns g c run reads = ?
+returns g c run reads =
+    let t = tree_of c.args.lists.now.tree.now in
+    let selection : EndsAt (tree_of c.args.lists.now.tree.now) (read_at run.reads 1) (Some c.in-Some.end) = subst (EndsAt t (read_at run.reads 1)) c.in-Some.is (c.in_ok-end.ensures (read_at run.reads 1) reads.selection) in
+    let position : EndsAt (tree_of c.args.lists.now.tree.now) (read_at run.reads 2) (Some c.in-Some-2.end) = subst (EndsAt t (read_at run.reads 2)) c.in-Some-2.is (c.in_ok-end-2.ensures (read_at run.reads 2) reads.position) in
+    let offset : EndsAt (tree_of c.args.lists.now.tree.now) (read_at run.reads 3) (Some c.in-Some-3.end) = subst (EndsAt t (read_at run.reads 3)) c.in-Some-3.is (c.in_ok-end-3.ensures (read_at run.reads 3) reads.offset) in
+    constants_are t run c.in-Some.end c.in-Some-2.end c.in-Some-3.end selection position offset c.in-Some-truth_of.selection c.in-Some-position_of.position c.in-Some-vector_of.offset
+    (sym c.truth_of.ensures ∙ c.in-Some-truth_of.is) (sym c.position_of.ensures ∙ c.in-Some-position_of.is) (sym c.vector_of.ensures ∙ c.in-Some-vector_of.is) c.limited.result c.limited.ensures
