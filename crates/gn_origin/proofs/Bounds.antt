@@ -129,10 +129,10 @@ move_sockets = one (codes "geometry") Geometry ∷ one (codes "selection") Truth
 pub move_inputs : (gs : List Group) (x : Node) → kind_in x ≡ codes "set_position" → further (λ g. g.inputs) gs (settings_in x) ≡ [] → inputs_of gs x ≡ move_sockets
 move_inputs gs (node id kind set inputs) e f = move_inputs_in gs id kind set inputs e f
 
-all_single : AllSingle move_sockets
+pub all_single : AllSingle move_sockets
 all_single = (refl, (refl, (refl, (refl, tt))))
 
-node_reads_by : (s : Scope) (way : Way) (x : Node) → node_reads s way x ≡ reads_of s way (inputs_in x) (inputs_of s.groups x) (map default_of (inputs_of_kind (kind_in x)))
+pub node_reads_by : (s : Scope) (way : Way) (x : Node) → node_reads s way x ≡ reads_of s way (inputs_in x) (inputs_of s.groups x) (map default_of (inputs_of_kind (kind_in x)))
 node_reads_by s way (node id kind set inputs) = refl
 
 module _ (t : Tree) (keeps : KeepsRules t) (form : HasForm t) where

@@ -13,3 +13,5 @@ pub mod Bounds
 pub mod Ending
 pub mod Output
 pub mod Carrying
+pub mod Moved
+pub mod Planned

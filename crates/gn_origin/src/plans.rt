@@ -134,6 +134,13 @@ fn position_of(end: Walk<'_, '_>) -> Option<(Option<V3>, usize)>
     }
 }
 
+/// Whether the value goes through no conversion.
+fn is_plain(end: &Walk<'_, '_>) -> bool
+    ensures { result ≡ (length end.now.conversions.items == 0) }
+{
+    end.conversions.is_empty()
+}
+
 /// Whether the walk ended at the tree's input.
 fn is_input(end: &Walk<'_, '_>) -> bool
     ensures { result ≡ input_at end.now.site (map kind_number end.now.conversions.items) }
@@ -299,7 +306,7 @@ fn plan_at<'s, 't>(alloc: Global, lists: &'s Lists<'t>, end: Walk<'s, 't>) -> Re
     requires ends { EndsAt (tree_of lists.now.tree.now) (output_read (tree_of lists.now.tree.now)) (Some end) }
     ensures { IfOk result (Answers (tree_of lists.now.tree.now)) }
 {
-    if !end.conversions.is_empty() {
+    if !is_plain(&end) {
         return Ok(None);
     }
     match end.site {
