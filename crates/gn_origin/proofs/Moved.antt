@@ -150,14 +150,20 @@ module _ (t : Tree) (run : Run) (kind : run.kind.name ≡ codes "set_position") 
     offset = moves.offset;
     few = moves.few;
   })
-  moves_are (Some plan) geometry (selected, to, by, same, has) = (selected, to, by, same, record {
-    kind = kind;
-    geometry = geometry;
-    selections = has.selections;
-    positions = has.positions;
-    offsets = has.offsets;
-    selection = has.selection;
-    position = has.position;
-    offset = has.offset;
-    few = has.few;
-  })
+  moves_are (Some plan) geometry (selected, to, by, same, has) = (
+    selected,
+    to,
+    by,
+    same,
+    record {
+      kind = kind;
+      geometry = geometry;
+      selections = has.selections;
+      positions = has.positions;
+      offsets = has.offsets;
+      selection = has.selection;
+      position = has.position;
+      offset = has.offset;
+      few = has.few;
+    },
+  )

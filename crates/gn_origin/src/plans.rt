@@ -299,7 +299,11 @@ fn constant_plan(constant: Constant) -> Option<Plan>
 }
 
 /// The plan of a tree, by where the walk from its output ended.
-fn plan_at<'s, 't>(alloc: Global, lists: &'s Lists<'t>, end: Walk<'s, 't>) -> Result<Option<Plan>, Memory>
+fn plan_at<'s, 't>(
+    alloc: Global,
+    lists: &'s Lists<'t>,
+    end: Walk<'s, 't>,
+) -> Result<Option<Plan>, Memory>
     ghost steps: { ℕ }
     requires rules { IsReady lists.now [] }
     requires found { IsBounded (tree_of lists.now.tree.now) steps }

@@ -9,18 +9,23 @@ fn written(alloc: Global, found: Option<Plan>) -> Result<String, Fail> {
         None => Ok(String::from_str(alloc, "none")?),
         Some(Plan::Empty) => Ok(String::from_str(alloc, "empty")?),
         Some(Plan::Input) => Ok(String::from_str(alloc, "input")?),
-        Some(Plan::Move {
-            selected,
-            to: None,
-            by,
-        }) => Ok(format!(in alloc; "{selected}, by {} {} {}", by.x.0, by.y.0, by.z.0)?),
-        Some(Plan::Move {
-            selected,
-            to: Some(to),
-            by,
-        }) => Ok(
-            format!(in alloc; "{selected}, to {} {} {}, by {} {} {}", to.x.0, to.y.0, to.z.0, by.x.0, by.y.0, by.z.0)?,
-        ),
+        Some(
+            Plan::Move {
+                selected,
+                to: None,
+                by,
+            },
+        ) => Ok(format!(in alloc; "{selected}, by {} {} {}", by.x.0, by.y.0, by.z.0)?),
+        Some(
+            Plan::Move {
+                selected,
+                to: Some(to),
+                by,
+            },
+        ) => Ok(format!(in alloc;
+            "{selected}, to {} {} {}, by {} {} {}",
+            to.x.0, to.y.0, to.z.0, by.x.0, by.y.0, by.z.0
+        )?),
     }
 }
 
@@ -111,7 +116,10 @@ fn chain(alloc: Global, length: u32) -> Result<String, Fail> {
         )?;
         text.push_str(&node)?;
     }
-    let last = format!(in alloc; "],\"output\":{{\"from\":\"n{}\",\"socket\":\"b\"}}}}", length - 1)?;
+    let last = format!(in alloc;
+        "],\"output\":{{\"from\":\"n{}\",\"socket\":\"b\"}}}}",
+        length - 1
+    )?;
     text.push_str(&last)?;
     Ok(text)
 }

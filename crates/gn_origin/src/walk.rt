@@ -42,7 +42,10 @@ pub(crate) enum Progress {
     Lost,
 }
 
-fn copied<'s, 't>(alloc: Global, frames: &VecDeque<Frame<'s, 't>>) -> Result<VecDeque<Frame<'s, 't>>, Memory>
+fn copied<'s, 't>(
+    alloc: Global,
+    frames: &VecDeque<Frame<'s, 't>>,
+) -> Result<VecDeque<Frame<'s, 't>>, Memory>
     ensures { IfOk result (λ copy. copy.items ≡ frames.now.items) }
 {
     let copy: Vec<Frame<'s, 't>> = frames.iter().copied().collect(alloc)?;

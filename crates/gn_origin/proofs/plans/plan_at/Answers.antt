@@ -32,7 +32,7 @@ moved-requires g c =
     let there = move_there t c.args.end ends n x c.in-Moved.is in
     let run = move_run t c.args.end ends n x c.in-Moved.is in
     let ways = ways_open t (output_read t) c.args.end ends in
-    (record { keeps = rules.keeps; form = rules.form; groups = rules.groups; ways = ways; }, (n, run.0, (there, run.1), c.requires.1.0.inputs c.args.end.frames.items ways n x.now run.0 (from_move t c.args.end ends n x c.in-Moved.is plain) (there, run.1)))
+    (record { keeps = rules.keeps; form = rules.form; groups = rules.groups; ways = ways }, (n, run.0, (there, run.1), c.requires.1.0.inputs c.args.end.frames.items ways n x.now run.0 (from_move t c.args.end ends n x c.in-Moved.is plain) (there, run.1)))
 
 pub returns-in-Moved : goal.returns-in-Moved
 returns-in-Moved g c =

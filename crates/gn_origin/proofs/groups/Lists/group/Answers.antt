@@ -22,6 +22,9 @@ returns c has =
     let gs = c.args.self.now.tree.now.groups.items in
     let n = c.in_ok-number.number in
     let x = c.in_ok-list.list.now in
-    let number : first_of (group_names (map group_of gs)) c.args.name.now ≡ Some n = ap (λ ns. first_of ns c.args.name.now) (sym c.args.self.now.with_names) ∙ (sym c.first.ensures ∙ c.in_ok-number.was) in
-    (n, number, group_at gs c.args.self.now.groups.items n x has
-    (ap (λ xs. slice_get xs n) (sym c.deref.ensures.value) ∙ (slice_get-get_or c.deref.result.now n x (c.in_ok-list.ensures.lookup.3).0 ∙ ap Some (sym c.in_ok-list.ensures.lookup.1))))
+    let number : first_of (group_names (map group_of gs)) c.args.name.now ≡ Some n = ap (λ ns. first_of ns c.args.name.now) (sym c.args.self.now.with_names) ∙ (sym c.first.ensures ∙ c.in_ok-number.was) in (
+      n,
+      number,
+      group_at gs c.args.self.now.groups.items n x has
+          (ap (λ xs. slice_get xs n) (sym c.deref.ensures.value) ∙ (slice_get-get_or c.deref.result.now n x (c.in_ok-list.ensures.lookup.3).0 ∙ ap Some (sym c.in_ok-list.ensures.lookup.1))),
+    )
