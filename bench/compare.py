@@ -18,7 +18,7 @@ import tempfile
 
 TOP = os.path.dirname(os.path.dirname(os.path.abspath(__file__)))
 TREE = os.path.join(TOP, "examples", "lift.json")
-PROVED = os.path.join(TOP, "crates", "geonodes", "out", "geonodes")
+PROVED = os.path.join(TOP, "out", "geonodes")
 
 
 def write_grid(path, side, last=""):

@@ -2,8 +2,8 @@
 """Makes docs/tree.schema.json and the tables in docs/TREES.md from the table of gn_kinds.
 
 With no argument both are written; with --check they are compared with what is there, and the exit
-status is 1 where they differ. A schema can't say which number texts have an exponent from -99 to 99,
-nor where links lead, so the program refuses more.
+status is 1 where they differ. A schema can't say where links lead, and takes 1.0 for the whole number
+1, since to it both are one value; so the program refuses more.
 """
 import json
 import pathlib
@@ -21,7 +21,7 @@ START = "<!-- The tables of kinds are made by make-schema.py. -->\n"
 ID = {"type": "string", "pattern": "^[a-z0-9_]{1,32}$"}
 NUMBER = {
     "type": "string",
-    "pattern": r"^[+-]?([0-9]+\.?[0-9]*|\.[0-9]+)([eE][+-]?[0-9]+)?$",
+    "pattern": r"^[+-]?([0-9]+\.?[0-9]*|\.[0-9]+)([eE][+-]?0*[0-9]{1,2})?$",
 }
 VALUES = {
     "Truth": {"type": "boolean"},
@@ -108,7 +108,7 @@ def setting(expression, known):
 def rows(text):
     """The rows of the table, each as its kind and three lists, and whether it is open."""
     known = constants(text)
-    for match in re.finditer(r"(?:^    |= \[)Row \{", text, re.M):
+    for match in re.finditer(r"^    Row \{", text, re.M):
         body, _ = inside(text, match.end() - 1)
         fields = dict(part.split(": ", 1) for part in items(" ".join(body.split())))
         settings = [setting(value_of(s, known), known) for s in list_of(fields["settings"], known)]
@@ -258,18 +258,18 @@ def setting_text(name, needed, form):
 
 
 def tables(text):
-    """The rows of all kinds as tables."""
+    """The rows of all kinds as tables, each with the sentence above it in the source."""
     known = constants(text)
     lines = []
     sections = re.split(r"^/// Kinds of (\w[^,.]*).*$", text, flags=re.M)
     for title, body in zip(sections[1::2], sections[2::2]):
-        lines += ["", "### " + title.capitalize(), "", "| Kind | Settings | Inputs | Outputs |"]
-        lines += ["| --- | --- | --- | --- |"]
-        for match in re.finditer(r"(?:^    |= \[)Row \{", body, re.M):
+        lines += ["", "### " + title.capitalize(), ""]
+        lines += ["| Kind | What it does | Settings | Inputs | Outputs |", "| --- | --- | --- | --- | --- |"]
+        for match in re.finditer(r"((?:^    // .*\n)+)    Row \{", body, re.M):
             row, _ = inside(body, match.end() - 1)
             fields = dict(part.split(": ", 1) for part in items(" ".join(row.split())))
             settings = [setting(value_of(s, known), known) for s in list_of(fields["settings"], known)]
-            shown = ["`%s`" % json.loads(fields["kind"])]
+            shown = ["`%s`" % json.loads(fields["kind"]), " ".join(re.findall("// (.*)", match[1]))]
             shown += ["; ".join(setting_text(*s) for s in settings)]
             for side in "inputs", "outputs":
                 shown += ["; ".join(socket_text(x, known) for x in list_of(fields[side], known))]

@@ -19,7 +19,7 @@ import tempfile
 import tree_rules as rules
 
 TOP = os.path.dirname(os.path.dirname(os.path.abspath(__file__)))
-PROVED = os.path.join(TOP, "crates", "geonodes", "out", "geonodes")
+PROVED = os.path.join(TOP, "out", "geonodes")
 WORDS = ["a", "b", "c", "g", "h", "x", "value", "geometry", "input", "output", "iteration", "iterations"]
 JUNK = [
     None, True, False, 0, 1, 2, 2**31, -(2**31) - 1, 2**64, 0.5, 1.0, "", "0", "1e99", "1e100", ".", "-0",

@@ -35,7 +35,7 @@ pub(crate) fn zone_set(setting: &Setting) -> Option<&Zone>
     }
 }
 
-/// The kind that the setting `type` names; geometry where there is none.
+/// The kind that the setting `type` names; geometry without that setting.
 #[tactic(auto, using(crate::proofs::Looking::chosen_then))]
 pub(crate) fn chosen(settings: &[Setting]) -> SocketKind
     ensures { result ≡ sockets.chosen (seen.settings_of settings.now) }

@@ -7,7 +7,7 @@ use crate::targets::targets_of;
 use gn_memory::Memory;
 use std::alloc::Global;
 
-/// Marks the node, and tells whether it is there and had no mark.
+/// Marks the node, and returns whether it exists and had no mark.
 fn mark(marks: &mut Vec<bool>, node: usize) -> bool
     ensures marked { marks.new.items ≡ spec.mark marks.old.items node }
     ensures is_new { result ≡ spec.is_new marks.old.items node }

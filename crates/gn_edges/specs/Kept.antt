@@ -23,7 +23,7 @@ with_pair pairs e = if list_any (is_pair e) pairs then pairs else pairs ++ e ∷
 abbrev pub first_link : List ℕ → ℕ → ℕ
 first_link first vertex = slice_index first vertex
 
--- where the search for a pair ends that begins at a link and looks at so many pairs: a link is 0 at the end of a list, and otherwise one more than a number
+-- where the search for a pair ends that begins at a link and looks at that number of pairs: a link is 0 at the end of a list, and otherwise one more than a number
 unfoldable pub walk : List (ℕ × ℕ) → List ℕ → ℕ × ℕ → ℕ → ℕ → Place
 walk pairs next e zero link = Beyond
 walk pairs next e (suc left) zero = Nowhere

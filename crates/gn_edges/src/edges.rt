@@ -132,7 +132,7 @@ fn add_crowded(
     Ok(number)
 }
 
-/// Puts an edge behind the others, unless it is one of them, and tells its number.
+/// Puts an edge behind the others, unless it is one of them, and returns its number.
 fn add_pair(
     pairs: &mut Vec<(u32, u32)>,
     first: &mut Vec<u32>,
@@ -174,7 +174,7 @@ impl Edges {
         self.pairs.len()
     }
 
-    /// Puts the edge between two vertices behind the others, unless it is one of them, and tells its
+    /// Puts the edge between two vertices behind the others, unless it is one of them, and returns its
     /// number. Want of memory changes nothing.
     pub fn add(&mut self, a: u32, b: u32) -> Result<usize, Memory>
         ensures edges { OnOk result (map edge_of self.new ≡ with_edge (map edge_of self.old) (edge_between a b)) }
@@ -194,8 +194,8 @@ impl Edges {
         Ok(number)
     }
 
-    /// Puts an edge, of which the lesser vertex is told first, behind the others, unless it is one of
-    /// them, and tells whether it is new. Want of memory changes nothing.
+    /// Puts an edge, given with its lesser vertex first, behind the others, unless it is one of them,
+    /// and returns whether it is new. Want of memory changes nothing.
     pub fn insert(&mut self, edge: (u32, u32)) -> Result<bool, Memory>
         ensures edges { OnOk result (self.new ≡ with_pair self.old edge) }
         ensures new { IfOk result (λ new. new ≡ not (list_any (is_pair edge) self.old)) }

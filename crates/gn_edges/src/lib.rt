@@ -1,7 +1,7 @@
 //! The different edges of a mesh, in the order in which they are first met.
 //!
 //! Contracts see `Edges` as the list of its edges, each with its lesser vertex first. `add` puts an
-//! edge behind the others unless it is one of them, and tells its number. The crate stands on the
+//! edge behind the others unless it is one of them, and returns its number. The crate stands on the
 //! definitions of `gn_plain`.
 //!
 //! An edge is found without a hash, since files choose the numbers of vertices and could choose

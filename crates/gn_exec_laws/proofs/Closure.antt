@@ -24,7 +24,7 @@ module _ {K V : Type 0} (graph : List (Node K V)) (starts : List (Source V)) (br
   bring_all [] = []
   bring_all (x ∷ xs) = brought x ++ bring_all xs
 
-  -- what is reached over so many nodes at most
+  -- what is reached over that number of nodes at most
   within : ℕ → List (Source V)
   within zero = starts
   within (suc n) = starts ++ bring_all (within n)

@@ -63,11 +63,11 @@ module _ {K V S T : Type 0} (m : Meanings K V S T) where
   abbrev pub result_links : Reading → Node K V → List (Link V)
   result_links read zone = map (outer_link zone) (opened_by read zone).outputs
 
-  -- what each import is told
+  -- the answer to each import
   abbrev pub Answers : Type 0
   Answers = Node K V → Answer
 
-  -- by files, each import is told what its file gives
+  -- by files, the answer to an import is that of its file
   abbrev pub told_by : (List ℕ → Answer) → Answers
   told_by files node = files (m.rows.file node.kind)
 

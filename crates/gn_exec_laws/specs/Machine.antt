@@ -185,7 +185,7 @@ module _ {K V S T : Type 0} (m : Meanings K V S T) where
     AnswersAs tells es (Serve n a) = (node : Node K V) → slice_get (world task es).graph n ≡ Some node → a ≡ tells node
     AnswersAs tells es _ = Unit {0}
 
-    -- each import was served what it is told
+    -- each import was served its answer
     abbrev pub IsServed : Answers m → List Event → Type 0
     IsServed tells [] = Unit {0}
     IsServed tells (e ∷ es) = AnswersAs tells es e × IsServed tells es

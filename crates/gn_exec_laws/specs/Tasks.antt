@@ -40,7 +40,7 @@ module _ {G K V : Type 0} (kind_of : G → K) (nothing : V) where
   abbrev pub inner_node : ℕ → ℕ → List (GraphNode G) → List V → GraphNode G → Node K V
   inner_node items base nodes constants node = record { path = node.path.steps.items; kind = kind_of node.kind; links = map (inner_link items base nodes constants) node.inputs.items }
 
-  -- what a zone with so many items opened, with its nodes numbered from the base
+  -- what a zone with that number of items opened, with its nodes numbered from the base
   abbrev pub opened_of : ℕ → ℕ → List (GraphNode G) → List V → List GraphLink → Opened K V
   opened_of items base nodes constants outputs =
       record { nodes = map (inner_node items base nodes constants) nodes; outputs = map (inner_link items base nodes constants) outputs }

@@ -161,7 +161,7 @@ fn are_faces(
     true
 }
 
-/// Whether these lists are the topology of a mesh of so many vertices.
+/// Whether these lists are the topology of a mesh with that number of vertices.
 pub(crate) fn are_parts(
     alloc: Global,
     points: usize,

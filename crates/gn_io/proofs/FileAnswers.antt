@@ -1,4 +1,4 @@
--- What a shelf that tells its files serves is what the files give.
+-- What a shelf that shows its files serves is what fetching by name returns.
 use Rattle.std.specs.Prelude.{◌≡◌, ℕ, ◌<◌, true, false, List, length, Option, Some, None, IsSomeAnd}
 use Rattle.std.proofs.Common.{arith}
 use Rattle.gn_io.specs.declared.shelf.Fetched.TheVariants.{Whole, TooLong}

@@ -1,4 +1,4 @@
--- What a shelf that tells nothing owes by its counts alone.
+-- What a shelf that shows nothing owes by its counts alone.
 use Rattle.std.specs.Prelude.{ℕ, List, None, refl}
 use Rattle.std.proofs.Common.{inl, arith}
 use Rattle.gn_io.specs.declared.shelf.Fetched.{Fetched}

@@ -1,4 +1,4 @@
--- What a name gives in one run, where the shelf tells its files and the names that it missed.
+-- What fetching a name returns in one run, for a shelf that shows its files and the names that it missed.
 use Rattle.std.specs.Prelude.{ℕ, nat_le, Bool, List, length, drop, bytes_eq, Option, Some, None, if◌then◌else◌}
 use Rattle.std.specs.List.{list_any}
 use Rattle.gn_io.specs.Outside.{Files, Names}

@@ -1,4 +1,4 @@
--- A shelf over files in memory: what each call answers, and what the shelf tells of its calls.
+-- A shelf over files in memory: what each call answers, and what the shelf shows of its calls.
 use Rattle.std.specs.Prelude.{◌≡◌, ◌⊎◌, ℕ, ◌+◌, nat_eq, nat_le, Bool, true, false, List, [], ◌∷◌, ◌++◌, length, map, filter, count_by, Option, Some, None, bytes_eq, if◌then◌else◌}
 use Rattle.std.specs.List.{list_any}
 use Rattle.std.specs.Map.{lookup}

@@ -17,12 +17,12 @@ stopped count = min count (2 ^ 64 - 1)
 abbrev pub Rose : ℕ → ℕ → Type 0
 Rose before now = stopped (before + 1) ≤ now
 
--- the names where they are told, with one more at the end
+-- the names, if they are shown, with one more at the end
 abbrev pub with_name : Option Names → List ℕ → Option Names
 with_name None name = None
 with_name (Some names) name = Some (names ++ name ∷ [])
 
--- the bytes where they are told, with more at the end
+-- the bytes, if they are shown, with more at the end
 abbrev pub with_bytes : Option (List ℕ) → List ℕ → Option (List ℕ)
 with_bytes None bytes = None
 with_bytes (Some held) bytes = Some (held ++ bytes)

@@ -14,7 +14,7 @@ abbrev pub Misses : List ℕ → Fetched → Option Names → Option Names → T
 Misses name Absent before now = now ≡ with_name before name
 Misses name _ before now = now ≡ before
 
--- the answer and the bytes that come with it are those of the file, where files are told
+-- the answer and the bytes that come with it are those of the file, if files are shown
 abbrev pub Serves : Option Files → List ℕ → ℕ → List ℕ → Fetched → Type 0
 Serves told name limit bytes Whole =
     (length bytes ≤ limit) × IfSome told (λ files. files name ≡ Some bytes)

@@ -11,8 +11,8 @@ use std::rt::Files;
 
 /// A shelf over the files below the current folder.
 ///
-/// It tells nothing of what they hold. A name that no file has is `Absent`. A folder, a path
-/// through a file and every other fault of the system are `Failed`.
+/// It shows contracts nothing of what they hold. A name that no file has is `Absent`. A folder, a
+/// path through a file and every other fault of the system are `Failed`.
 #[derive(Drop)]
 pub struct FolderShelf<'a, R> {
     rt: &'a R,

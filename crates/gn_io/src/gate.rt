@@ -1,4 +1,4 @@
-/// What is told of the nodes that run: each node's number as it begins and as it ends.
+/// Sees each node that runs: its number as it begins and as it ends.
 pub trait Gate {
     /// The node of this number begins.
     fn enter(&self, node: u64);

@@ -1,10 +1,10 @@
 //! The outside of the evaluator: where bytes come from and where they go.
 //!
-//! A shelf gives the files that are asked for by name, a sink takes bytes, and a gate is told which
-//! node begins and ends. What a shelf or a sink tells of itself, its contract ties to each answer. A
-//! call answers that it failed, or that it found no file, only where a count rose in that call, even
-//! where nothing else is told. There is a shelf and a sink in memory, which tell everything, and one
-//! of each over the system, which are the trusted edge. The crate stands on `gn_memory` alone.
+//! A shelf gives the files that are asked for by name, a sink takes bytes, and a gate sees which node
+//! begins and ends. A shelf or a sink may show its contents to contracts, and then each answer is tied
+//! to them. A call reports that it failed, or that it found no file, only where a count rose in that
+//! call, also for a shelf that shows nothing else. The shelf and the sink in memory show everything;
+//! those over the system are the trusted edge. The crate stands on `gn_memory` alone.
 #![tactic(auto)]
 
 pub mod folder_shelf;

@@ -22,13 +22,13 @@ pub enum Fetched {
 
 /// A place that gives files by name.
 pub trait Shelf {
-    // the bytes under each name, where the shelf tells them
+    // the bytes under each name, if the shelf shows them
     ghost holds: { Self → Option Files };
 
-    // the names asked for, in order, where the shelf tells them
+    // the names asked for, in order, if the shelf shows them
     ghost asked: { Self → Option Names };
 
-    // the names answered `Absent`, in order, where the shelf tells them
+    // the names answered `Absent`, in order, if the shelf shows them
     ghost missed: { Self → Option Names };
 
     // how many calls failed: a count that stops at 2^64 - 1
@@ -47,7 +47,7 @@ pub trait Shelf {
         ensures absent { OnAbsent result (Rose (misses self.old) (misses self.new)) }
         ensures failed { OnFailedFetch result (Rose (faults self.old) (faults self.new)) }
 
-        // What the shelf tells afterwards.
+        // What the shelf shows afterwards.
         ensures holds { holds self.new ≡ holds self.old }
         ensures asked { AsksFor name.now result (asked self.old) (asked self.new) }
         ensures missed { Misses name.now result (missed self.old) (missed self.new) }

@@ -16,7 +16,7 @@ pub enum Put {
 
 /// A place that takes bytes.
 pub trait Sink {
-    // the bytes taken so far, where the sink tells them
+    // the bytes taken so far, if the sink shows them
     ghost held: { Self → Option (List ℕ) };
 
     // how many calls failed: a count that stops at 2^64 - 1

@@ -8,7 +8,7 @@ use std::marker::Model;
 
 /// A sink over a writer of the standard library, as the standard output is.
 ///
-/// It tells nothing of what it passed on.
+/// It shows contracts nothing of what it passed on.
 #[derive(Drop)]
 pub struct StdSink<W> {
     to: W,

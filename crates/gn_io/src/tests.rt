@@ -1,8 +1,9 @@
 use super::*;
 use std::alloc::Global;
 use std::collections::BTreeMap;
-use std::fs::File;
+use std::fs::{File, Permissions};
 use std::io::{ErrorKind, Write};
+use std::os::unix::fs::PermissionsExt;
 use std::path::PathBuf;
 use std::process::Abort;
 use std::rt::Files;
@@ -130,6 +131,21 @@ fn a_folder_gives_its_files_within_their_limits(rt: HostRuntime) -> Result<(), F
         (below.as_str(), 9, Fetched::Failed, ""),
     ];
     ask_folder(&rt, &cases);
+    fs::remove_file(&rt, file)?;
+    Ok(())
+}
+
+// The system lets its superuser read every file.
+#[test]
+fn a_file_that_may_not_be_read_is_not_absent(rt: HostRuntime) -> Result<(), Fail> {
+    let path = temporary_path(&rt)?;
+    let file = path.as_str();
+    fs::write(&rt, file, "abc")?;
+    fs::set_permissions(&rt, file, Permissions::from_mode(0o200))?;
+    let mut shelf = FolderShelf::new(&rt);
+    let mut into = Vec::new(rt.alloc());
+    let answer = shelf.fetch(file, 9, &mut into);
+    assert!(rt; answer == Fetched::Failed || answer == Fetched::Whole);
     fs::remove_file(&rt, file)?;
     Ok(())
 }

@@ -29,7 +29,7 @@ is_output _ = false
 abbrev are_whole : List Setting → Bool
 are_whole ss = are_apart ss && (not (list_any is_zone ss) || list_any is_nodes ss && list_any is_output ss)
 
--- ---- what it tells
+-- ---- what follows of it
 
 abbrev Names : List Key → Setting → Type 0
 Names keys s = named keys (setting_key s).name ≡ Some (setting_key s)

@@ -5,7 +5,7 @@ ghost use Rattle.gn_value.specs.Rows.{choice_of, chosen, fixed_at, int_at, truth
 
 use gn_value::{Fx, V3, Value, ValueKind};
 
-/// The argument at a position; false where there is none.
+/// The argument at a position; false beyond the last.
 pub fn value_at(args: &[Value], at: usize) -> Value
     ensures { result ≡ value_at args.now at }
 {
@@ -63,7 +63,7 @@ pub fn choice_of(by: Value) -> i32
     }
 }
 
-/// The value after the choice that has its number; the zero of the kind where there is none.
+/// The value with the number that the choice says; the zero of the kind if no value has it.
 #[tactic(auto, unfolding(gn_value::specs::Rows::chosen))]
 pub fn chosen(kind: ValueKind, cases: u32, args: &[Value]) -> Value
     ensures { result ≡ chosen kind cases args.now }

@@ -13,6 +13,7 @@ use gn_value::{Fx, Place, V3, Value, ValueKind};
 
 /// Kinds of values and inputs.
 static VALUES: [Row; 11] = [
+    // Gives its constant, a fixed number.
     Row {
         kind: "float",
         settings: &[SettingForm::Value(ValueKind::Fixed)],
@@ -20,6 +21,7 @@ static VALUES: [Row; 11] = [
         outputs: &[NUMBER],
         open: false,
     },
+    // Gives its constant, a whole number.
     Row {
         kind: "integer",
         settings: &[SettingForm::Value(ValueKind::Int)],
@@ -27,6 +29,7 @@ static VALUES: [Row; 11] = [
         outputs: &[INTEGER],
         open: false,
     },
+    // Gives its constant, true or false.
     Row {
         kind: "boolean",
         settings: &[SettingForm::Value(ValueKind::Truth)],
@@ -34,6 +37,7 @@ static VALUES: [Row; 11] = [
         outputs: &[TRUTH],
         open: false,
     },
+    // Gives its constant, a vector.
     Row {
         kind: "vector",
         settings: &[SettingForm::Value(ValueKind::Vector)],
@@ -41,6 +45,8 @@ static VALUES: [Row; 11] = [
         outputs: &[OutputRow::Field("value", ValueKind::Vector)],
         open: false,
     },
+    // The position of the element: of a vertex, a cloud's point or an instance, and else the mean
+    // of the vertices around it.
     Row {
         kind: "position",
         settings: &[],
@@ -48,6 +54,7 @@ static VALUES: [Row; 11] = [
         outputs: &[OutputRow::Field("position", ValueKind::Vector)],
         open: false,
     },
+    // The number of the element, from 0.
     Row {
         kind: "index",
         settings: &[],
@@ -55,6 +62,7 @@ static VALUES: [Row; 11] = [
         outputs: &[OutputRow::Field("index", ValueKind::Int)],
         open: false,
     },
+    // The value of the column `id` at the element, or its index where there is no such column.
     Row {
         kind: "id",
         settings: &[],
@@ -62,6 +70,8 @@ static VALUES: [Row; 11] = [
         outputs: &[OutputRow::Field("id", ValueKind::Int)],
         open: false,
     },
+    // The normal of a face, scaled to length 1, and on other places of the mesh the mean of the
+    // normals of the faces around.
     Row {
         kind: "normal",
         settings: &[],
@@ -69,6 +79,8 @@ static VALUES: [Row; 11] = [
         outputs: &[OutputRow::Field("normal", ValueKind::Vector)],
         open: false,
     },
+    // The value of the column of that name, converted to `type`, and whether there is such a
+    // column.
     Row {
         kind: "named_attribute",
         settings: &[SettingForm::Name, SettingForm::Type(VALUE_KINDS)],
@@ -76,6 +88,7 @@ static VALUES: [Row; 11] = [
         outputs: &[CHOSEN, OutputRow::Field("exists", ValueKind::Truth)],
         open: false,
     },
+    // The two vertices of an edge, by number and by position.
     Row {
         kind: "edge_vertices",
         settings: &[],
@@ -88,6 +101,7 @@ static VALUES: [Row; 11] = [
         ],
         open: false,
     },
+    // How many edges end at a vertex, and how many faces have it as a corner.
     Row {
         kind: "vertex_neighbors",
         settings: &[],
@@ -102,6 +116,8 @@ static VALUES: [Row; 11] = [
 
 /// Kinds of functions of values.
 static FUNCTIONS: [Row; 13] = [
+    // Applies `op` to fixed numbers; `absolute` to `sqrt` take `a` alone, and `less_than` and
+    // `greater_than` give 1 or 0.
     Row {
         kind: "math",
         settings: &[SettingForm::Op(&[
@@ -128,6 +144,7 @@ static FUNCTIONS: [Row; 13] = [
         outputs: &[NUMBER],
         open: false,
     },
+    // Applies `op` to whole numbers; `absolute`, `sign` and `negate` take `a` alone.
     Row {
         kind: "integer_math",
         settings: &[SettingForm::Op(&[
@@ -141,6 +158,7 @@ static FUNCTIONS: [Row; 13] = [
         outputs: &[INTEGER],
         open: false,
     },
+    // Applies `op` to vectors; `dot`, `length` and `distance` give `value`, the others `vector`.
     Row {
         kind: "vector_math",
         settings: &[SettingForm::Op(&[
@@ -166,6 +184,7 @@ static FUNCTIONS: [Row; 13] = [
         outputs: &[VECTOR, NUMBER],
         open: false,
     },
+    // Applies `op` to truths; `not` takes `a` alone.
     Row {
         kind: "boolean_math",
         settings: &[SettingForm::Op(&["and", "or", "xor", "nand", "nor", "not"])],
@@ -176,6 +195,7 @@ static FUNCTIONS: [Row; 13] = [
         outputs: &[TRUTH],
         open: false,
     },
+    // Whether `op` holds between `a` and `b`.
     Row {
         kind: "compare",
         settings: &[
@@ -193,6 +213,7 @@ static FUNCTIONS: [Row; 13] = [
         outputs: &[OutputRow::Field("result", ValueKind::Truth)],
         open: false,
     },
+    // Brings a number into the range from `min` to `max`.
     Row {
         kind: "clamp",
         settings: &[],
@@ -204,6 +225,8 @@ static FUNCTIONS: [Row; 13] = [
         outputs: &[NUMBER],
         open: false,
     },
+    // Maps the range of `from_min` to `from_max` onto that of `to_min` to `to_max`, and with
+    // `clamp` stays within it.
     Row {
         kind: "map_range",
         settings: &[SettingForm::Clamp],
@@ -217,6 +240,7 @@ static FUNCTIONS: [Row; 13] = [
         outputs: &[NUMBER],
         open: false,
     },
+    // Goes from `a` to `b` by `factor`, which is brought into 0 to 1.
     Row {
         kind: "mix",
         settings: &[SettingForm::Type(&[SocketKind::Fixed, SocketKind::Vector])],
@@ -228,6 +252,7 @@ static FUNCTIONS: [Row; 13] = [
         outputs: &[CHOSEN],
         open: false,
     },
+    // Makes a whole number of a fixed one, by `op`.
     Row {
         kind: "float_to_integer",
         settings: &[SettingForm::Op(&["round", "floor", "ceil", "truncate"])],
@@ -235,6 +260,7 @@ static FUNCTIONS: [Row; 13] = [
         outputs: &[INTEGER],
         open: false,
     },
+    // Makes a vector of three numbers.
     Row {
         kind: "combine_xyz",
         settings: &[],
@@ -246,6 +272,7 @@ static FUNCTIONS: [Row; 13] = [
         outputs: &[VECTOR],
         open: false,
     },
+    // Gives the three numbers of a vector.
     Row {
         kind: "separate_xyz",
         settings: &[],
@@ -257,6 +284,8 @@ static FUNCTIONS: [Row; 13] = [
         ],
         open: false,
     },
+    // A random value from `min` to `max`, or true with `probability`, which depends on `id` and
+    // `seed` alone.
     Row {
         kind: "random_value",
         settings: &[SettingForm::Type(VALUE_KINDS)],
@@ -270,6 +299,8 @@ static FUNCTIONS: [Row; 13] = [
         outputs: &[CHOSEN],
         open: false,
     },
+    // Gives `true` where the condition holds and `false` elsewhere; for geometry the condition is
+    // a single value.
     Row {
         kind: "switch",
         settings: &[SettingForm::Type(ANY_KIND)],
@@ -285,6 +316,8 @@ static FUNCTIONS: [Row; 13] = [
 
 /// Kinds of fields that look elsewhere.
 static ELSEWHERE: [Row; 5] = [
+    // Sums of the values of equal `group` on a place: up to and with each element, up to and
+    // without it, and over all.
     Row {
         kind: "accumulate_field",
         settings: &[
@@ -302,6 +335,8 @@ static ELSEWHERE: [Row; 5] = [
         ],
         open: false,
     },
+    // The value that the field has on a place at the element with that index; 0 where there is no
+    // such element.
     Row {
         kind: "evaluate_at_index",
         settings: &[
@@ -312,6 +347,7 @@ static ELSEWHERE: [Row; 5] = [
         outputs: &[CHOSEN],
         open: false,
     },
+    // The values that the field has on a place, interpolated to the place where they are read.
     Row {
         kind: "evaluate_on_domain",
         settings: &[
@@ -322,6 +358,7 @@ static ELSEWHERE: [Row; 5] = [
         outputs: &[CHOSEN],
         open: false,
     },
+    // The value that the field has on a place of another geometry at the element with that index.
     Row {
         kind: "sample_index",
         settings: &[
@@ -333,6 +370,8 @@ static ELSEWHERE: [Row; 5] = [
         outputs: &[CHOSEN],
         open: false,
     },
+    // The index of the nearest element on a place of another geometry, the least one among equally
+    // near ones.
     Row {
         kind: "sample_nearest",
         settings: &[SettingForm::Place(ANY_PLACE)],
@@ -344,6 +383,8 @@ static ELSEWHERE: [Row; 5] = [
 
 /// Kinds of attributes.
 static ATTRIBUTES: [Row; 7] = [
+    // Evaluates the field on a place of the geometry, and gives it as an attribute that stays with
+    // the elements.
     Row {
         kind: "capture_attribute",
         settings: &[
@@ -354,6 +395,7 @@ static ATTRIBUTES: [Row; 7] = [
         outputs: &[NEW_GEOMETRY, OutputRow::Chosen("attribute")],
         open: false,
     },
+    // Writes the values of the field to the column of that name, where the selection holds.
     Row {
         kind: "store_named_attribute",
         settings: &[
@@ -365,6 +407,7 @@ static ATTRIBUTES: [Row; 7] = [
         outputs: &[NEW_GEOMETRY],
         open: false,
     },
+    // Removes the column of that name.
     Row {
         kind: "remove_named_attribute",
         settings: &[SettingForm::Name],
@@ -372,6 +415,8 @@ static ATTRIBUTES: [Row; 7] = [
         outputs: &[NEW_GEOMETRY],
         open: false,
     },
+    // Mean, sum, least, greatest and range of the field's values on a place, over the selected
+    // elements.
     Row {
         kind: "attribute_statistic",
         settings: &[SettingForm::Place(ANY_PLACE)],
@@ -389,6 +434,7 @@ static ATTRIBUTES: [Row; 7] = [
         ],
         open: false,
     },
+    // The number of elements on each place.
     Row {
         kind: "domain_size",
         settings: &[],
@@ -403,6 +449,7 @@ static ATTRIBUTES: [Row; 7] = [
         ],
         open: false,
     },
+    // Moves the selected vertices, points and instances to `position`, and then by `offset`.
     Row {
         kind: "set_position",
         settings: &[],
@@ -415,6 +462,7 @@ static ATTRIBUTES: [Row; 7] = [
         outputs: &[NEW_GEOMETRY],
         open: false,
     },
+    // Writes the column `id` of vertices and points, where the selection holds.
     Row {
         kind: "set_id",
         settings: &[],
@@ -430,6 +478,7 @@ static ATTRIBUTES: [Row; 7] = [
 
 /// Kinds of geometry.
 static GEOMETRY_KINDS: [Row; 16] = [
+    // Joins geometries into one, their elements in the order of the links.
     Row {
         kind: "join_geometry",
         settings: &[],
@@ -437,6 +486,7 @@ static GEOMETRY_KINDS: [Row; 16] = [
         outputs: &[NEW_GEOMETRY],
         open: false,
     },
+    // Moves all points and instances by the matrix with these rows, and then by `translation`.
     Row {
         kind: "transform_geometry",
         settings: &[],
@@ -450,6 +500,7 @@ static GEOMETRY_KINDS: [Row; 16] = [
         outputs: &[NEW_GEOMETRY],
         open: false,
     },
+    // Deletes the selected elements of a place, and what can't be without them.
     Row {
         kind: "delete_geometry",
         settings: &[SettingForm::Place(ANY_BUT_CORNER)],
@@ -457,6 +508,7 @@ static GEOMETRY_KINDS: [Row; 16] = [
         outputs: &[NEW_GEOMETRY],
         open: false,
     },
+    // Gives the selected elements of a place, and the others.
     Row {
         kind: "separate_geometry",
         settings: &[SettingForm::Place(ANY_BUT_CORNER)],
@@ -467,6 +519,7 @@ static GEOMETRY_KINDS: [Row; 16] = [
         ],
         open: false,
     },
+    // Gives the mesh, the cloud and the instances each alone.
     Row {
         kind: "separate_components",
         settings: &[],
@@ -478,6 +531,7 @@ static GEOMETRY_KINDS: [Row; 16] = [
         ],
         open: false,
     },
+    // The least cuboid along the axes around all points, and its two extreme corners.
     Row {
         kind: "bounding_box",
         settings: &[],
@@ -489,6 +543,7 @@ static GEOMETRY_KINDS: [Row; 16] = [
         ],
         open: false,
     },
+    // Turns the selected faces around, each from its first vertex on.
     Row {
         kind: "flip_faces",
         settings: &[],
@@ -496,6 +551,7 @@ static GEOMETRY_KINDS: [Row; 16] = [
         outputs: &[NEW_GEOMETRY],
         open: false,
     },
+    // Makes a cloud with a point for each selected element of a place of the mesh.
     Row {
         kind: "mesh_to_points",
         settings: &[SettingForm::Place(MESH_PLACES)],
@@ -503,6 +559,7 @@ static GEOMETRY_KINDS: [Row; 16] = [
         outputs: &[NEW_GEOMETRY],
         open: false,
     },
+    // Makes a mesh with a vertex for each selected point of the cloud.
     Row {
         kind: "points_to_vertices",
         settings: &[],
@@ -510,6 +567,7 @@ static GEOMETRY_KINDS: [Row; 16] = [
         outputs: &[NEW_GEOMETRY],
         open: false,
     },
+    // Repeats each selected point of the cloud `amount` times, and gives the number of each copy.
     Row {
         kind: "duplicate_elements",
         settings: &[],
@@ -524,6 +582,7 @@ static GEOMETRY_KINDS: [Row; 16] = [
         ],
         open: false,
     },
+    // A line of `count` vertices with edges between neighbours.
     Row {
         kind: "mesh_line",
         settings: &[],
@@ -535,6 +594,8 @@ static GEOMETRY_KINDS: [Row; 16] = [
         outputs: &[NEW_GEOMETRY],
         open: false,
     },
+    // A flat grid of faces around the origin, of that size and with that number of vertices along
+    // each side.
     Row {
         kind: "grid",
         settings: &[],
@@ -547,6 +608,7 @@ static GEOMETRY_KINDS: [Row; 16] = [
         outputs: &[NEW_GEOMETRY],
         open: false,
     },
+    // A cuboid around the origin, of that size.
     Row {
         kind: "cube",
         settings: &[],
@@ -554,6 +616,7 @@ static GEOMETRY_KINDS: [Row; 16] = [
         outputs: &[NEW_GEOMETRY],
         open: false,
     },
+    // A cloud of `count` points at the positions that the field gives.
     Row {
         kind: "points",
         settings: &[],
@@ -564,6 +627,7 @@ static GEOMETRY_KINDS: [Row; 16] = [
         outputs: &[NEW_GEOMETRY],
         open: false,
     },
+    // The mesh of an OBJ file.
     Row {
         kind: "import_obj",
         settings: &[SettingForm::File],
@@ -571,6 +635,7 @@ static GEOMETRY_KINDS: [Row; 16] = [
         outputs: &[NEW_GEOMETRY],
         open: false,
     },
+    // Runs its body `iterations` times, and hands the items from each turn to the next.
     Row {
         kind: "repeat",
         settings: &[SettingForm::Items, SettingForm::Nodes, SettingForm::Output],
@@ -582,6 +647,7 @@ static GEOMETRY_KINDS: [Row; 16] = [
 
 /// Kinds of instances.
 static INSTANCES: [Row; 6] = [
+    // Makes an instance of each geometry that is linked.
     Row {
         kind: "geometry_to_instance",
         settings: &[],
@@ -589,6 +655,7 @@ static INSTANCES: [Row; 6] = [
         outputs: &[NEW_GEOMETRY],
         open: false,
     },
+    // Puts an instance of the geometry on each selected point.
     Row {
         kind: "instance_on_points",
         settings: &[],
@@ -601,6 +668,7 @@ static INSTANCES: [Row; 6] = [
         outputs: &[NEW_GEOMETRY],
         open: false,
     },
+    // Puts the geometry of each instance in its place.
     Row {
         kind: "realize_instances",
         settings: &[],
@@ -608,6 +676,7 @@ static INSTANCES: [Row; 6] = [
         outputs: &[NEW_GEOMETRY],
         open: false,
     },
+    // Moves the selected instances.
     Row {
         kind: "translate_instances",
         settings: &[],
@@ -619,6 +688,7 @@ static INSTANCES: [Row; 6] = [
         outputs: &[NEW_GEOMETRY],
         open: false,
     },
+    // Scales the selected instances.
     Row {
         kind: "scale_instances",
         settings: &[],
@@ -630,6 +700,7 @@ static INSTANCES: [Row; 6] = [
         outputs: &[NEW_GEOMETRY],
         open: false,
     },
+    // Makes a cloud with a point for each selected instance.
     Row {
         kind: "instances_to_points",
         settings: &[],
@@ -640,13 +711,16 @@ static INSTANCES: [Row; 6] = [
 ];
 
 /// Kinds of groups, which a tree is freed of before it is run.
-static GROUPS: [Row; 1] = [Row {
-    kind: "group",
-    settings: &[SettingForm::Group],
-    inputs: &[],
-    outputs: &[],
-    open: true,
-}];
+static GROUPS: [Row; 1] = [
+    // Stands for the nodes of the group with that name.
+    Row {
+        kind: "group",
+        settings: &[SettingForm::Group],
+        inputs: &[],
+        outputs: &[],
+        open: true,
+    },
+];
 
 #[tactic(auto, unfolding(crate::specs::Table::values))]
 fn values_rows() -> &'static [Row]

@@ -27,7 +27,7 @@ module _ {K : Type 0} where
   has_output None socket = false
   has_output (Some node) socket = nat_lt socket node.outputs
 
-  -- is there such a value, where these nodes and so many constants are?
+  -- is there such a value, with these nodes and that number of constants?
   abbrev pub is_there : List (GraphNode K) → ℕ → Origin → Bool
   is_there nodes constants Input = true
   is_there nodes constants (Constant slot) = nat_lt slot constants

@@ -27,6 +27,8 @@ fn paths_are_ordered_by_their_steps_from_the_left(rt: HostRuntime) -> Result<(),
     )?;
     let later_turn = path(rt.alloc(), &[step(1, Some(10)), step(0, None)])?;
     let zone = path(rt.alloc(), &[step(1, None)])?;
+    let later_node = path(rt.alloc(), &[step(2, Some(0))])?;
+    assert_eq!(rt; later_turn.cmp(&later_node), Ordering::Less);
     assert_eq!(rt; first.cmp(&inside), Ordering::Less);
     assert_eq!(rt; inside.cmp(&later_turn), Ordering::Less);
     assert_eq!(rt; zone.cmp(&first), Ordering::Less);

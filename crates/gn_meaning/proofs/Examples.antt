@@ -115,7 +115,7 @@ under name x = record { name = name; input = x }
 abbrev whole : ℕ → Value
 whole n = int (pos n)
 
--- so many halves
+-- that number of halves
 abbrev halves : ℕ → Value
 halves n = fixed (fx (pos (n * 2 ^ 31)))
 

@@ -1,4 +1,4 @@
--- Measures as far as 64 bits tell them.
+-- Measures that saturate at 2^64 - 1.
 use Rattle.std.specs.Prelude.{ℕ, ◌-◌, ◌^◌, min}
 use Rattle.gn_kinds.specs.Row.{Text}
 use Rattle.gn_tree.specs.Trees.{Nodes}

@@ -1,4 +1,4 @@
--- Heights and numbers of nodes, as far as 64 bits tell them, and what is kept of them for groups.
+-- Heights and numbers of nodes, saturating at 2^64 - 1, and what is kept of them for groups.
 use Rattle.std.specs.Prelude.{◌≡◌, ℕ, suc, List, string_bytes}
 use Rattle.gn_kinds.specs.Row.{Text}
 use Rattle.gn_tree.specs.Seen.{nodes_of}

@@ -20,7 +20,7 @@ pub(crate) fn names_of<'a>(alloc: Global, list: &'a [Group]) -> Result<Vec<&'a s
     Ok(texts)
 }
 
-/// How high the highest node of each group is, as far as 64 bits tell it.
+/// The nesting height of the highest node of each group, saturating at 2^64 - 1.
 pub(crate) fn all_heights(
     alloc: Global,
     names: &Names<'_>,
@@ -41,7 +41,7 @@ pub(crate) fn all_heights(
     Ok(numbers)
 }
 
-/// How many nodes each group has with the groups in it unfolded, as far as 64 bits tell it.
+/// The number of nodes of each group with the groups in it unfolded, saturating at 2^64 - 1.
 pub(crate) fn all_counts(
     alloc: Global,
     names: &Names<'_>,

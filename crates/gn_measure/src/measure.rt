@@ -29,7 +29,7 @@ fn number_of(groups: &Known<'_, '_>, name: &str) -> u64
     }
 }
 
-/// How high a node is; at most 2^64 - 1 is told.
+/// The node's nesting height, saturating at 2^64 - 1.
 #[cycle(height)]
 pub(crate) fn height(groups: &Known<'_, '_>, node: &Node) -> u64
     ensures { result ≡ capped (rule.height (known groups.now) node.now) }
@@ -59,7 +59,7 @@ fn height_in(groups: &Known<'_, '_>, settings: &Vec<Setting>) -> u64
     highest
 }
 
-/// How high the highest node is; at most 2^64 - 1 is told.
+/// The nesting height of the highest node, saturating at 2^64 - 1.
 #[cycle(height)]
 pub(crate) fn heights(groups: &Known<'_, '_>, nodes: &Vec<Node>) -> u64
     ensures { result ≡ capped (rule.heights (known groups.now) (nodes_of nodes.now.items)) }
@@ -100,7 +100,7 @@ fn count_in(groups: &Known<'_, '_>, settings: &Vec<Setting>) -> u64
     all
 }
 
-/// How many nodes there are with groups unfolded; at most 2^64 - 1 is told.
+/// The number of nodes with groups unfolded, saturating at 2^64 - 1.
 #[cycle(count)]
 pub(crate) fn counts(groups: &Known<'_, '_>, nodes: &Vec<Node>) -> u64
     ensures { result ≡ capped (rule.counts (known groups.now) (nodes_of nodes.now.items)) }

@@ -5,7 +5,7 @@ use Rattle.std.proofs.lemmas.Bool.Decides.{eqb_tells}
 use Rattle.gn_lazy.specs.declared.path.PathStep.{PathStep}
 use Rattle.gn_node_set.specs.Paths.{Path, same_turn, same_path, ends_plain, has_turn, left_out, zone_of, with_entry}
 
--- a test tells whether it holds
+-- a test decides whether it holds
 abbrev Tells : Bool → Type 0 → Type 0
 Tells b P = (b ≡ true) × P ⊎ (b ≡ false) × (¬ P)
 

@@ -63,7 +63,7 @@ module _ {V : Type 0} (rows : Rows Kind V) (given : Given V) (t : Tree) where
   AllRead (r ∷ rs) (v ∷ vs) = Reads r v × AllRead rs vs
   AllRead _ _ = ⊥
 
-  -- along so many steps all values are found
+  -- along that number of steps all values are found
   steps_for : (rs : List Read) (vs : List V) → AllRead rs vs → ℕ
   steps_for [] vs h = 0
   steps_for (r ∷ rs) [] h = 0

@@ -248,7 +248,7 @@ fn names_the_rule_that_trees_break(rt: HostRuntime) -> Result<(), Fail> {
 }
 
 /// A tree of groups `g0` of two nodes, and each further one of two group nodes of the one before, up
-/// to `last`, with a node of the last one, and so many further nodes.
+/// to `last`, with a node of the last one, and that number of further nodes.
 fn doubling(alloc: Global, last: u32, further: u32) -> Result<String, Fail> {
     let mut text = String::from_str(
         alloc,

@@ -10,7 +10,7 @@ use Rattle.gn_plain.specs.Fields.{Expr, constant, input}
 use Rattle.gn_rows.specs.Carried.{value_through, field_through}
 use Rattle.gn_rows.specs.SetPosition.{vector_sum}
 
--- where a point goes that is selected: to a position, its own where there is none, and by an offset
+-- where a selected point goes: to a position, or from its own if none is given, and by an offset
 abbrev pub moved_point : Bool → Option V3 → V3 → V3 → V3
 moved_point selected to by point = if selected then vector_sum (option_map_or (λ p. p) to point) by else point
 
@@ -22,7 +22,7 @@ module _ {S : Type 0} where
   abbrev pub IsWorth : Expr S → Value → ℕ → Type 0
   IsWorth e v n = (c : Value) × (kinds : List ℕ) × (e ≡ field_through (constant c) kinds) × (v ≡ value_through c kinds) × (n ≡ length kinds)
 
-  -- the field is a position, or each point's own where there is none
+  -- the field is a position, or each point's own if none is given
   abbrev pub IsTarget : Expr S → Option V3 → ℕ → Type 0
   IsTarget e None n = (e ≡ input position) × (n ≡ 0)
   IsTarget e (Some p) n = IsWorth e (vector p) n

@@ -58,7 +58,7 @@ outputs_of_kind kind = option_map_or (λ r. r.outputs) (row_of_kind kind) []
 
 -- ---- settings
 
--- the kind that the setting `type` names; where there is none, no row of the table asks for it
+-- the kind that the setting `type` names; no row of the table asks for it in a node without that setting
 abbrev pub chosen : Settings → SocketKind
 chosen no_settings = Geometry
 chosen (and_setting (of_kind k) rest) = k

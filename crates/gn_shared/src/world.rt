@@ -295,8 +295,8 @@ impl ShareWorld {
 
     /// Takes the step of one event, where the machine allows it.
     ///
-    /// `NotAllowed` comes exactly where it does not, and `Memory` where there is none for it. A
-    /// step that is refused changes nothing.
+    /// Returns `NotAllowed` exactly where the machine does not allow it, and `Memory` where memory is
+    /// refused. A refused step changes nothing.
     pub fn step(&mut self, event: ShareEvent) -> Result<(), StepFault>
         ensures { Steps self.old (event_of event) result self.new }
     {

@@ -1,4 +1,4 @@
--- How the logic stores a node: every part has a code of its own, and a code tells which node it is.
+-- How the logic stores a node: every part has a code of its own, and a code determines its node.
 use Rattle.std.specs.Prelude.{◌≡◌, ◌==◌, ℕ, ℤ, Bool, List, refl, if◌then◌else◌}
 use Rattle.std.proofs.Common.{ap, ◌⊎◌, inl, inr}
 use Rattle.std.specs.Coded.{Coded, code_by, coded×, coded⊎, coded_ℕ, coded_ℤ, coded_bool, coded_list}

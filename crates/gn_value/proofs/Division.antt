@@ -8,7 +8,7 @@ use Rattle.std.specs.Int.{int_rem_euclid, int_div_euclid}
 use Rattle.gn_value.specs.Arithmetic.{one, quotient_of, sat}
 use Rattle.gn_value.proofs.Modulo.{above}
 
--- a number is so many times the divisor, and less than that more
+-- a number is the divisor times its quotient, and less than the divisor more
 parts : (n q d t : ℕ) → t < d → n ≡ q * d + t → n / d ≡ q
 parts n q d t h e = ap (λ x. x / d) e ∙ div-mul-add q d t h
 

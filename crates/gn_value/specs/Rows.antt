@@ -219,7 +219,7 @@ abbrev pub choice_of : Value → ℤ
 choice_of (truth b) = if b then pos 1 else pos 0
 choice_of value = int_in value
 
--- the value after the choice that has its number; the zero of the kind where there is none
+-- the value with the number that the choice says; the zero of the kind if no value has it
 unfoldable pub chosen : ValueKind → ℕ → List Value → Value
 chosen kind cases args =
     let choice = choice_of (value_at args 0) in

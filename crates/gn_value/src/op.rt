@@ -147,7 +147,7 @@ pub enum Op {
     /// Of a value of any kind: the value as one of another kind.
     Convert { to: ValueKind },
     /// Of a truth or an integer k, and as many values as `cases` says: value k, counted from 0, or
-    /// the zero of the kind where there is none.
+    /// the zero of the kind if k is not one of them.
     Select { kind: ValueKind, cases: u32 },
 }
 

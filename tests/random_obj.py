@@ -1,7 +1,7 @@
 #!/usr/bin/env python3
 """Compares `geonodes eval` with another reading of OBJ on random texts.
 
-    python3 bench/random_obj.py [TEXTS] [SEED]
+    python3 tests/random_obj.py [TEXTS] [SEED]
 
 makes TEXTS texts (1,000 by default), well formed or nearly so: numbers in every spelling, references
 from both ends, joined lines, comments and stray bytes. For each it works out in plain Python, with
@@ -20,7 +20,7 @@ import tempfile
 from fractions import Fraction
 
 TOP = os.path.dirname(os.path.dirname(os.path.abspath(__file__)))
-PROVED = os.path.join(TOP, "crates", "geonodes", "out", "geonodes")
+PROVED = os.path.join(TOP, "out", "geonodes")
 TREE = """{"format": 1,
  "nodes": [{"id": "still", "kind": "set_position",
             "in": {"geometry": {"from": "input", "socket": "geometry"}, "offset": ["0", "0", "0"]}}],
