@@ -10,7 +10,7 @@ use Rattle.gn_meaning.specs.Sites.{Way, a_value, a_leaf, its_position, at_consta
 use Rattle.gn_meaning.specs.Reads.{kind_number, read_at, Run}
 use Rattle.gn_meaning.specs.Origins.{IsReadFrom}
 use Rattle.gn_meaning.proofs.Options.{some_same}
-use Rattle.gn_origin.specs.declared.plans.Plan.{Plan as CodePlan}
+use Rattle.gn_plans.specs.declared.plans.Plan.{Plan as CodePlan}
 use Rattle.gn_origin.specs.declared.walk.Walk.{Walk}
 use Rattle.gn_origin.specs.declared.read.Site.{Site}
 use Rattle.gn_origin.specs.declared.read.Site.TheVariants as site
@@ -18,7 +18,7 @@ use Rattle.gn_origin.specs.declared.read.Constant.TheVariants as constant
 use Rattle.gn_origin.specs.Frames.{way_of, site_of}
 use Rattle.gn_origin.specs.Reading.{IsElsewhere}
 use Rattle.gn_origin.specs.Walking.{read_by}
-use Rattle.gn_origin.specs.Plans.{conversion_limit, Carries, MovesTo}
+use Rattle.gn_plans.specs.Plans.{conversion_limit, Carries, MovesTo}
 use Rattle.gn_origin.specs.Moves.{EndsAt, carried_at, carried_by, truth_in, vector_in, own_position, position_at, position_by, ConstantsAre, Limits}
 use Rattle.gn_origin.proofs.Ending.{ends_from, ends_only, carries, carries_only}
 

@@ -12,7 +12,8 @@ use Rattle.gn_origin.specs.declared.read.Site.TheVariants as site
 use Rattle.gn_origin.specs.declared.read.Constant.TheVariants as constant
 use Rattle.gn_origin.specs.Frames.{way_of, site_of}
 use Rattle.gn_origin.specs.Walking.{read_by}
-use Rattle.gn_origin.specs.Plans.{value_through, Carries}
+use Rattle.gn_plans.specs.Plans.{Carries}
+use Rattle.gn_rows.specs.Carried.{value_through}
 use Rattle.gn_origin.specs.Moves.{EndsAt, carried_at, carried_by}
 use Rattle.gn_origin.proofs.Back.{from_itself, only_itself}
 

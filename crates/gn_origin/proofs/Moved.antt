@@ -26,7 +26,7 @@ use Rattle.gn_meaning.proofs.Opened.{at_way}
 use Rattle.gn_meaning.proofs.Options.{some_same}
 use Rattle.gn_origin.specs.declared.list.List.{List as CodeList}
 use Rattle.gn_origin.specs.declared.plans.Inputs.{Inputs}
-use Rattle.gn_origin.specs.declared.plans.Plan.{Plan as CodePlan}
+use Rattle.gn_plans.specs.declared.plans.Plan.{Plan as CodePlan}
 use Rattle.gn_origin.specs.declared.read.Site.{Site}
 use Rattle.gn_origin.specs.declared.read.Site.TheVariants as site
 use Rattle.gn_origin.specs.declared.read.Constant.TheVariants as constant
@@ -34,7 +34,7 @@ use Rattle.gn_origin.specs.declared.walk.Walk.{Walk}
 use Rattle.gn_origin.specs.Frames.{Frames, way_of, site_of, entries_of, AreOpen, IsMove, IsThere}
 use Rattle.gn_origin.specs.Looking.{own_sockets}
 use Rattle.gn_origin.specs.Moves.{EndsAt, AreRead, NamesRead, IsMoveOf, input_at, HasConstants, ConstantsAre, MovesAs}
-use Rattle.gn_origin.specs.Plans.{ReadsInput, Moves}
+use Rattle.gn_plans.specs.Plans.{ReadsInput, Moves}
 use Rattle.gn_origin.specs.Reading as by_list
 use Rattle.gn_origin.specs.Reading.{IsAt, IsRead, named_read}
 use Rattle.gn_origin.specs.Walking.{tree_by, read_by, IsOrigin}

@@ -19,7 +19,7 @@ use Rattle.gn_origin.specs.Reading as reading
 use Rattle.gn_origin.specs.Reading.{IsAt, IsRead, IsElsewhere, one_read, named_read}
 use Rattle.gn_origin.specs.Walking.{tree_by, read_by, AreSame, IsOrigin, Ends}
 use Rattle.gn_origin.specs.Moves.{EndsAt}
-use Rattle.gn_origin.specs.Plans.{HasNoPlan, gives_nothing, gives_input, gives_moved}
+use Rattle.gn_plans.specs.Plans.{HasNoPlan, gives_nothing, gives_input, gives_moved}
 use Rattle.gn_origin.proofs.Singles.{read_of_socket}
 
 module _ (t : Tree) (keeps : KeepsRules t) (form : HasForm t) where

@@ -31,12 +31,6 @@ module _ (side : Group → List Socket) (gs : List Group) where
   further_by one other None e f g = rw e (rw f g)
   further_by one other (Some name) e f g = rw e (rw f refl)
 
-  further_named : (set : Settings) (name : Text) (i : ℕ) (g : Group) → group_in set ≡ Some name → first_of (group_names gs) name ≡ Some i → slice_get gs i ≡ Some g → further side gs set ≡ side g
-  further_named set name i g e f h = rw (e, f, h) refl
-
-  further_unnamed : (set : Settings) (name : Text) → group_in set ≡ Some name → first_of (group_names gs) name ≡ None → further side gs set ≡ []
-  further_unnamed set name e f = rw (e, f) refl
-
 module _ (sc : Scope) (kind : Text) where
   passes : (one other : Settings) (found : Inside) → body_in sc kind one ≡ body_in sc kind other → (SettingsHaveForm kind one → SettingsHaveForm kind other)
       → ((side : Group → List Socket) → further side sc.groups one ≡ further side sc.groups other) → Holds sc kind other found → Holds sc kind one found
@@ -62,7 +56,3 @@ passes_on sc (s.Zone z) no_group no_zone kind rest found h = absurd (no_zone z r
 
 pub settings_next : (xs : List CodeSetting) (i : ℕ) (x : CodeSetting) → i < length xs → x ≡ get_or xs i x → settings_of (drop i xs) ≡ setting_then x (settings_of (drop (i + 1) xs))
 settings_next xs i x h e = ap settings_of (drop_more xs i x h) ∙ ap (λ y. setting_then y (settings_of (drop (i + 1) xs))) (sym e)
-
-pub not_some : {A : Type 0} (o : Option A) → ((x : A) → ¬ (o ≡ Some x)) → o ≡ None
-not_some None h = refl
-not_some (Some x) h = absurd (h x refl)

@@ -10,18 +10,18 @@ use Rattle.gn_meaning.specs.Reads.{kind_number, Run, a_node, part_at}
 use Rattle.gn_meaning.specs.Demand.{output_read}
 use Rattle.gn_meaning.specs.Origins.{IsReadFrom}
 use Rattle.gn_meaning.proofs.Options.{some_same}
-use Rattle.gn_origin.specs.declared.plans.Plan.{Plan as CodePlan}
+use Rattle.gn_plans.specs.declared.plans.Plan.{Plan as CodePlan}
 use Rattle.gn_origin.specs.declared.read.Constant.{Constant}
 use Rattle.gn_origin.specs.declared.read.Constant.TheVariants as constant
 use Rattle.gn_origin.specs.declared.read.Site.{Site}
 use Rattle.gn_origin.specs.declared.read.Site.TheVariants as site
 use Rattle.gn_origin.specs.declared.walk.Frame.{Frame}
 use Rattle.gn_origin.specs.declared.walk.Walk.{Walk}
-use Rattle.gn_origin.specs.Answers.{plan_of, Answers}
+use Rattle.gn_plans.specs.Answers.{plan_of, Answers}
 use Rattle.gn_origin.specs.Constants.{constant_of}
 use Rattle.gn_origin.specs.Frames.{way_of, site_of, AreOpen, IsMove, IsThere}
 use Rattle.gn_origin.specs.Moves.{EndsAt, MovesAs, constant_plan, input_at}
-use Rattle.gn_origin.specs.Plans.{the_input, Moves, IsPlan, HasNoPlan, gives_nothing, gives_input, gives_moved}
+use Rattle.gn_plans.specs.Plans.{the_input, Moves, IsPlan, HasNoPlan, gives_nothing, gives_input, gives_moved}
 use Rattle.gn_origin.specs.Walking.{read_by, IsOrigin}
 use Rattle.gn_origin.proofs.Ending.{ends_from, ends_only}
 use Rattle.gn_origin.proofs.Moved.{none_left, input_from, ways_open, site_there}

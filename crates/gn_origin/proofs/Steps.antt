@@ -53,6 +53,3 @@ module _ (t : Tree) where
 
   pub move_name : (way : Way) (n : ℕ) (x : Node) (m : IsMove t way n x) → (kind_in m.outer.scope x).name ≡ codes "set_position"
   move_name way n x m = name_of_kind m.outer.scope x ∙ m.part.0
-
-  pub move_is_origin : (way : Way) (n : ℕ) (x : Node) → IsMove t way n x → IsOrigin t (at_output way n 0)
-  move_is_origin way n x m origin = ap (output_origin t origin way n 0) (move_part way n x m)

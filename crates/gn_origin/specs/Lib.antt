@@ -1,4 +1,3 @@
-pub mod Plans
 pub mod Forms
 pub mod Looking
 pub mod Constants
@@ -6,5 +5,4 @@ pub mod Nodes
 pub mod Frames
 pub mod Reading
 pub mod Walking
-pub mod Answers
 pub mod Moves

@@ -6,8 +6,8 @@ use Rattle.gn_value.specs.declared.value.Value.TheVariants.{Truth as truth, Vect
 use Rattle.gn_tree.specs.Trees.{Tree}
 use Rattle.gn_meaning.specs.Sites.{a_value, a_leaf, its_position, no_geometry, zero_at, at_output, Read, plain_read}
 use Rattle.gn_meaning.specs.Reads.{kind_number, read_at, Run, a_node, part_at}
-use Rattle.gn_origin.specs.declared.plans.Plan.{Plan as CodePlan}
-use Rattle.gn_origin.specs.declared.plans.Plan.TheVariants.{Empty}
+use Rattle.gn_plans.specs.declared.plans.Plan.{Plan as CodePlan}
+use Rattle.gn_plans.specs.declared.plans.Plan.TheVariants.{Empty}
 use Rattle.gn_origin.specs.declared.read.Constant.{Constant}
 use Rattle.gn_origin.specs.declared.plans.Inputs.{Inputs}
 use Rattle.gn_origin.specs.declared.plans.Carried.{Carried}
@@ -18,8 +18,9 @@ use Rattle.gn_origin.specs.declared.read.Constant.TheVariants as constant
 use Rattle.gn_origin.specs.Frames.{Frames, way_of, AreOpen, IsMove}
 use Rattle.gn_origin.specs.Reading.{IsElsewhere, IsRead, named_read}
 use Rattle.gn_origin.specs.Walking.{tree_by, read_by, IsOrigin, AreSame, IsFoundBelow, Stands}
-use Rattle.gn_origin.specs.Plans.{value_through, conversion_limit, a_move, Carries, MovesTo, Moves}
-use Rattle.gn_origin.specs.Answers.{plan_of}
+use Rattle.gn_plans.specs.Plans.{conversion_limit, a_move, Carries, MovesTo, Moves}
+use Rattle.gn_rows.specs.Carried.{value_through}
+use Rattle.gn_plans.specs.Answers.{plan_of}
 use Rattle.gn_kinds.specs.declared.row.SocketKind.TheVariants.{Truth, Vector, Geometry}
 use Rattle.gn_tree.specs.Trees.{Named, Node}
 use Rattle.gn_tree.specs.Seen.{tree_of}

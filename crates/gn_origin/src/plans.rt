@@ -6,13 +6,13 @@ ghost use Rattle.gn_meaning.specs.Sites as sites;
 ghost use Rattle.gn_meaning.specs.Forms.{HasForm};
 ghost use Rattle.gn_meaning.specs.Reads.{kind_number, Run};
 ghost use Rattle.gn_meaning.specs.Demand.{output_read};
-ghost use Rattle.gn_origin.specs.Answers.{Answers};
+ghost use Rattle.gn_plans.specs.Answers.{Answers};
 ghost use Rattle.gn_origin.specs.Looking.{own_sockets};
 ghost use Rattle.gn_origin.specs.Frames.{Frames};
 ghost use Rattle.gn_origin.specs.Reading.{IsAt, IsRead, tree_by};
 ghost use Rattle.gn_origin.specs.Walking.{IsFoundBelow};
-ghost use Rattle.gn_origin.specs.Plans as plans;
-ghost use Rattle.gn_origin.specs.Plans.{kind_of_number};
+ghost use Rattle.gn_rows.specs.Carried as carried;
+ghost use Rattle.gn_rows.specs.Carried.{kind_of_number};
 ghost use Rattle.gn_origin.specs.Moves as moves;
 ghost use Rattle.gn_origin.specs.Moves.{EndsAt, Limits, IsReady, AreRead, NamesRead, AreFoundBelow, IsBounded, IsMoveOf, ConstantsAre, MovesAs, carried_by, carried_of, truth_in, vector_in, position_by, input_at};
 
@@ -23,26 +23,11 @@ use crate::walk::{Frame, Walk, follow};
 use gn_check::GoodTree;
 use gn_kinds::SocketKind;
 use gn_memory::Memory;
+use gn_plans::Plan;
 use gn_tree::{Node, Socket};
 use gn_value::{V3, Value, ValueKind, convert};
 use std::alloc::Global;
 use std::collections::VecDeque;
-
-/// The geometry that a tree gives out.
-#[derive(Clone, Copy, Debug, PartialEq, Eq)]
-pub enum Plan {
-    /// The geometry without elements.
-    Empty,
-    /// The tree's input.
-    Input,
-    /// The tree's input with each vertex moved to a position, its own where there is none, and by an
-    /// offset; as it is where no vertex is selected.
-    Move {
-        selected: bool,
-        to: Option<V3>,
-        by: V3,
-    },
-}
 
 /// How many conversions the three constants of a plan go through together, at most.
 const CONVERSION_LIMIT: usize = 4000;
@@ -62,7 +47,7 @@ fn value_kind(kind: SocketKind) -> ValueKind
 
 /// The value after these conversions.
 fn value_through(value: Value, conversions: VecDeque<SocketKind>) -> Value
-    ensures { result ≡ plans.value_through value (map kind_number conversions.items) }
+    ensures { result ≡ carried.value_through value (map kind_number conversions.items) }
 {
     let mut value = value;
     let mut conversions = conversions;

@@ -1,4 +1,5 @@
 use super::*;
+use gn_plans::Plan;
 use gn_read::read_tree;
 use std::alloc::Global;
 use std::process::Abort;

@@ -3,7 +3,7 @@ use Rattle.gn_tree.specs.Seen.{tree_of}
 use Rattle.gn_meaning.specs.Reads.{read_at, Run, kind_number}
 use Rattle.gn_meaning.specs.Demand.{output_read}
 use Rattle.gn_origin.specs.Frames.{AreOpen, IsMove}
-use Rattle.gn_origin.specs.Answers.{Answers}
+use Rattle.gn_plans.specs.Answers.{Answers}
 use Rattle.gn_origin.specs.Moves.{IsReady}
 use Rattle.gn_origin.proofs.Moved.{ways_open, site_there}
 use Rattle.gn_origin.proofs.Moving.{on_ok}
