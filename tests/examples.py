@@ -14,7 +14,7 @@ EXAMPLES = os.path.join(TOP, "examples")
 PROGRAM = os.path.join(TOP, "bin", "geonodes")
 TIMES = {"three": 3}
 # Trees that are well formed and not evaluated yet.
-WAITING = ["groups.json", "waves.json"]
+WAITING = ["waves.json"]
 
 
 def rows(page):

@@ -177,7 +177,7 @@ one_given name (too_long size) r r' h k = h ∙ sym k
 one_given name (whole bytes) r r' h k = one_text bytes r r' h k
 
 not_both : (t : Tree) (plan : Plan) → HasNoPlan t → IsPlan t plan → ⊥
-not_both t plan none one = let bad : None ≡ Some plan = sym none ∙ one in cc
+not_both t plan none one = none plan one
 
 one_way : (given : Result Tree Ending) (input : Result _ Ending) (r r' : Result Job Ending) → TreeLeads given input r → TreeLeads given input r' → r ≡ r'
 one_way (Err e) input r r' h k = h ∙ sym k

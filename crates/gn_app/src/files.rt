@@ -9,7 +9,7 @@ use gn_geom::Mesh;
 use gn_io::{Fetched, Shelf};
 use gn_memory::Memory;
 use gn_obj::{ObjFault, read_obj};
-use gn_plans::find_plan;
+use gn_origin::find_plan;
 use gn_read::{TreeFault, read_tree};
 use std::alloc::Global;
 

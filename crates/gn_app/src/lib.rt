@@ -8,11 +8,11 @@
 //! other end is reported by a line on the sink of messages. `check` asks for the tree alone, runs no node
 //! and writes `ok`. Words that spell no command touch no file and no output.
 //!
-//! A tree is read and checked by `gn_read`. So far `eval` evaluates the trees for which `gn_plans`
-//! finds a plan; every other well-formed tree ends as `NotBuilt`. What a plan makes is what the tree
-//! means by the laws of `gn_plan_laws`, over `gn_meaning` and `gn_rows`. Meshes and their texts are
-//! those of `gn_geom`, `gn_elements` and `gn_obj`, the outside is that of `gn_io`, and the meter that
-//! of `gn_shared`.
+//! A tree is read and checked by `gn_read`. So far `eval` evaluates the trees that have a plan by
+//! `gn_plans`, which `gn_origin` finds; every other well-formed tree ends as `NotBuilt`. What a plan makes
+//! is what the tree means by the laws of `gn_plan_laws`, over `gn_meaning` and `gn_rows`. Meshes and their
+//! texts are those of `gn_geom`, `gn_elements` and `gn_obj`, the outside is that of `gn_io`, and the meter
+//! that of `gn_shared`.
 #![tactic(auto)]
 
 mod command;

@@ -409,6 +409,12 @@ fn trees_give_out_what_they_mean(rt: HostRuntime) -> Result<(), Fail> {
             1,
         ),
         (RESTING_TREE, TRIANGLE, TRIANGLE, 1),
+        (
+            GROUPED_TREE,
+            TRIANGLE,
+            "v -1 -1 -1\nv 0 -1 -1\nv -1 0 -1\nf 1 2 3\n",
+            1,
+        ),
     ];
     for (tree, input, text, runs) in cases.iter() {
         let seen = run_over(&rt, rt.alloc(), &EVAL, tree, input, 0, NONE, NONE)?;
@@ -440,7 +446,7 @@ fn well_formed_trees_are_checked_alone(rt: HostRuntime) -> Result<(), Fail> {
     let seen = run_over(&rt, rt.alloc(), &CHECK, LIFT, ABSENT, 0, (1, 2), NONE)?;
     let said = "geonodes: write fault after 2 bytes\n";
     compare(&rt, &seen, Status::WriteFault, "ok", said, 1, 0);
-    for tree in [GROUPED_TREE, IMPORT_TREE, SWITCH_TREE].iter() {
+    for tree in [IMPORT_TREE, SWITCH_TREE].iter() {
         let seen = run_over(&rt, rt.alloc(), &EVAL, tree, ABSENT, 2, NONE, NONE)?;
         compare(
             &rt,

@@ -3,6 +3,5 @@ pub mod Ways
 pub mod Inputs
 pub mod Demanding
 pub mod Standing
-pub mod Asked
 pub mod Planned
 pub mod Formed

@@ -17,8 +17,7 @@ use Rattle.gn_meaning.specs.Forms.{HasForm}
 use Rattle.gn_meaning.specs.Denotation.{Given, StandsAt}
 use Rattle.gn_meaning.specs.Demand.{output_read}
 use Rattle.gn_meaning.specs.Origins.{IsReadFrom}
-use Rattle.gn_plans.specs.Plans.{Plan, IsPlan}
-use Rattle.gn_plan_laws.specs.Asks.{Carries, MovesTo, Moves, AsksFor, gives_nothing, gives_input, gives_moved}
+use Rattle.gn_plans.specs.Plans.{Plan, Carries, MovesTo, Moves, IsPlan, gives_nothing, gives_input, gives_moved}
 use Rattle.gn_rows.specs.Carried.{a_geometry, a_field, field_through}
 use Rattle.gn_rows.specs.Moves.{moved_shape, IsWorth, IsTarget}
 use Rattle.gn_rows.specs.Limits.{is_large}
@@ -28,7 +27,6 @@ use Rattle.gn_plan_laws.specs.Made.{made, runs_of, no_sources, Value as Carried,
 use Rattle.gn_plan_laws.proofs.Reading.{Inside, inside, Reads, reads_value, reads_site, AllRead}
 use Rattle.gn_plan_laws.proofs.Ways.{Fits, out_fits}
 use Rattle.gn_plan_laws.proofs.Inputs.{four_read}
-use Rattle.gn_plan_laws.proofs.Asked.{plan_asked}
 use Rattle.gn_plan_laws.proofs.Standing.{four_reads, output_stands}
 use Rattle.gn_plan_laws.proofs.Demanding.{EndsAt, OneOrNone, demands_none, demands_one, root_opens}
 
@@ -108,18 +106,12 @@ module _ (files : List ℕ → Answer) (t : Tree) (s : Shape) where
     move_demands =
         (run.path ∷ [], demands_one rows given t (output_read t) way n run at (plain_kind run.kind m.kind) (λ r e. all_end r (subst (λ reads. Has reads r) four e)) h output_fits, refl)
 
-  asked_stands : (plan : Plan) → KeepsRules t → HasForm t → is_large (of_shape s) ≡ false → AsksFor t plan → Denotes files t s (made plan s)
-  asked_stands plan keeps form small (gives_nothing h) = reads_site rows given t (output_read t) (at_constant no_geometry) (a_geometry empty) h (1, refl)
-  asked_stands plan keeps form small (gives_input h) = reads_site rows given t (output_read t) (at_input the_tree 0) (a_geometry (of_shape s)) h (1, refl)
-  asked_stands plan keeps form small (gives_moved way n run selected to by h at m) = moved_stands keeps form small way n run selected to by h at m
-
-  asked_demands : (plan : Plan) → KeepsRules t → HasForm t → is_large (of_shape s) ≡ false → AsksFor t plan → CountsDemand files t s (runs_of plan)
-  asked_demands plan keeps form small (gives_nothing h) = ([], demands_none rows given t (output_read t) (at_constant no_geometry) tt h, refl)
-  asked_demands plan keeps form small (gives_input h) = ([], demands_none rows given t (output_read t) (at_input the_tree 0) tt h, refl)
-  asked_demands plan keeps form small (gives_moved way n run selected to by h at m) = move_demands keeps form small way n run selected to by h at m
-
   pub plan_stands : (plan : Plan) → KeepsRules t → HasForm t → is_large (of_shape s) ≡ false → IsPlan t plan → Denotes files t s (made plan s)
-  plan_stands plan keeps form small e = asked_stands plan keeps form small (plan_asked t plan e)
+  plan_stands plan keeps form small (gives_nothing h) = reads_site rows given t (output_read t) (at_constant no_geometry) (a_geometry empty) h (1, refl)
+  plan_stands plan keeps form small (gives_input h) = reads_site rows given t (output_read t) (at_input the_tree 0) (a_geometry (of_shape s)) h (1, refl)
+  plan_stands plan keeps form small (gives_moved way n run selected to by h at m) = moved_stands keeps form small way n run selected to by h at m
 
   pub plan_demands : (plan : Plan) → KeepsRules t → HasForm t → is_large (of_shape s) ≡ false → IsPlan t plan → CountsDemand files t s (runs_of plan)
-  plan_demands plan keeps form small e = asked_demands plan keeps form small (plan_asked t plan e)
+  plan_demands plan keeps form small (gives_nothing h) = ([], demands_none rows given t (output_read t) (at_constant no_geometry) tt h, refl)
+  plan_demands plan keeps form small (gives_input h) = ([], demands_none rows given t (output_read t) (at_input the_tree 0) tt h, refl)
+  plan_demands plan keeps form small (gives_moved way n run selected to by h at m) = move_demands keeps form small way n run selected to by h at m

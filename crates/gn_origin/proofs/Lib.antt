@@ -1,0 +1,17 @@
+pub mod Back
+pub mod Looking
+pub mod Parts
+pub mod Reading
+pub mod Lists
+pub mod Singles
+pub mod Ways
+pub mod Inner
+pub mod Steps
+pub mod Others
+pub mod Moving
+pub mod Bounds
+pub mod Ending
+pub mod Output
+pub mod Carrying
+pub mod Moved
+pub mod Planned
