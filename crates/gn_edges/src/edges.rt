@@ -15,6 +15,9 @@ use std::marker::Model;
 /// How many edges can be in lists, so that a link fits 32 bits.
 const LINKED: usize = 0xffff_ffff;
 
+/// How many more links than are needed are made at once.
+const SPARE: usize = 1024;
+
 /// Different edges in the order in which they came, the lesser vertex of each first.
 #[derive(Drop)]
 pub struct Edges {
@@ -59,7 +62,7 @@ fn make_room(first: &mut Vec<u32>, vertex: u32) -> Result<(), Memory>
 {
     let count = vertex as usize + 1;
     if first.len() < count {
-        first.resize(count, 0)?;
+        first.resize(count + SPARE, 0)?;
     }
     Ok(())
 }

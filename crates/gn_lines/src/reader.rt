@@ -83,12 +83,11 @@ fn split_word(text: &[u8]) -> (&[u8], &[u8])
     ensures word { result.0.now ≡ word_at text.now }
     ensures behind { result.1.now ≡ after_word text.now }
 {
-    for (i, byte) in text.iter().enumerate() {
-        if is_separator(*byte) {
-            return text.split_at(i);
-        }
+    let mut len = 0;
+    while len < text.len() && !is_separator(text[len]) {
+        len += 1;
     }
-    text.split_at(text.len())
+    text.split_at(len)
 }
 
 /// Whether a word ends with a backslash.
