@@ -5,4 +5,3 @@ pub mod Demanding
 pub mod Standing
 pub mod Asked
 pub mod Planned
-pub mod Formed
