@@ -5,13 +5,14 @@ use Rattle.gn_io.specs.Outside.{Files, Names, with_name, Rose}
 use Rattle.gn_io.specs.Files.{FileAnswer, whole, absent, too_long}
 use Rattle.gn_kinds.specs.Row.{Text}
 use Rattle.gn_tree.specs.Trees.{Tree}
+use Rattle.gn_json.proofs.Formed.{is_of_form}
+use Rattle.gn_meaning.proofs.Formed.{has_form}
 use Rattle.gn_plain.specs.Geometry as plain
 use Rattle.gn_geom.specs.Meshes.{MeshArrays, plain_of}
 use Rattle.gn_plans.specs.Plans.{Plan, IsPlan}
 use Rattle.gn_plans.specs.Answers.{plan_of}
 use Rattle.gn_elements.specs.Read.{Bad, mesh}
 use Rattle.gn_rows.proofs.Imports.{spelled_small}
-use Rattle.gn_plan_laws.proofs.Formed.{tree_form}
 use Rattle.gn_app.specs.declared.load.PlannedTree.{PlannedTree}
 use Rattle.gn_app.specs.declared.load.Prepared.{Prepared}
 use Rattle.gn_app.specs.declared.ending.Ending as rust
@@ -254,7 +255,7 @@ module _ (t : Text) (before now : Seen) (planned : PlannedTree) (read : IsPlanne
     missed = read.had.asked.missed;
     tree = read.tree;
     keeps = read.is.3;
-    form = tree_form read.is.0 read.tree read.is.2;
+    form = has_form read.tree (is_of_form planned.bytes.items read.is.0 read.tree read.is.1 read.is.2);
     small = spelled_small planned.bytes.items (plain_of p.mesh) h;
     plan = subst (λ plan. IsPlan read.tree (plan_of plan)) (sym same) read.plan;
     told = own_told (Ok (plain_of p.mesh)) h;
@@ -366,7 +367,7 @@ module _ (t o : Text) (before middle now : Seen) (planned : PlannedTree) (e : by
     missed = same_missed had.asked.missed;
     tree = read.tree;
     keeps = read.is.3;
-    form = tree_form read.is.0 read.tree read.is.2;
+    form = has_form read.tree (is_of_form planned.bytes.items read.is.0 read.tree read.is.1 read.is.2);
     small = spelled_small bytes (plain_of m) h;
     plan = read.plan;
     told = input_told bytes (Ok (plain_of m)) had h;

@@ -26,19 +26,19 @@ use Rattle.gn_form.specs.Form as form
 use Rattle.gn_form.specs.Form.{Form, Key, needs, may_have, named, all_keys, is_known, are_links, keys_of, node_keys, setting_key, row_in_node, BreaksForm}
 use Rattle.gn_form.specs.Walk.{if_asked, first_in, first_item, first_member}
 use Rattle.gn_form.proofs.Exact.{tree_is_first}
-use Rattle.gn_tree.specs.Trees.{links, constant, Named, Settings, no_settings}
+use Rattle.gn_tree.specs.Trees.{links, constant, Named, Settings, no_settings, Tree}
 use Rattle.gn_tree.specs.Form.{socket_fits, link_fits, input_fits, inputs_fit, output_fits, is_of_kind, stands_with_items, kept, node_fits, settings_fit, nodes_fit, group_fits, tree_fits, IsOfForm}
 use Rattle.gn_tree.specs.Seen.{nodes_of, tree_of}
-use Rattle.gn_tree.specs.declared.tree.Tree.{Tree}
-use Rattle.gn_json.specs.Answers.{Answers}
+use Rattle.gn_tree.specs.declared.tree.Tree as rust
+use Rattle.gn_json.specs.Answers.{FirstMisfit, Answers}
 use Rattle.gn_json.specs.declared.fault.JsonFault.{JsonFault}
 use Rattle.gn_json.specs.Typed.{text_at, link_in, links_in, constant_or_false, input_in, inputs_in, inputs_at, kind_at, socket_in, sockets_in, sockets_at, place_at, value_at, setting_in, then_setting, settings_before, zone_if, settings_in, node_in, settings_among, settings_under, nodes_among, nodes_under, nodes_in, group_in, groups_in, in_32_bits, format_in, tree_in}
-use Rattle.gn_json.specs.Exact.{is_zone, is_needed}
+use Rattle.gn_json.specs.Exact.{is_zone, is_needed, tree_from}
 use Rattle.gn_json.proofs.Clean.{both_left, both_right, some_or, same_some, same_bytes, IsClean, none_joined, fit, items_clean, members_clean, none_first, asked_clean, IsCleanUnder, IsThere, there_later, HasKeys, has_keys_if, clean_under, there_in}
 use Rattle.gn_json.proofs.Rows.{NamesEach, AreWhole, row_whole, zone_is_last}
 use Rattle.gn_json.proofs.Whole.{good_under, Names, there_as, clean_as, no_row, kind_in_node, set_needed, forms_of}
 use Rattle.gn_json.proofs.Top.{json_in_order}
-use Rattle.gn_json.proofs.Rising.{made_of, read_rises}
+use Rattle.gn_json.proofs.Rising.{made_of, names_rise_in}
 
 -- ---- tests
 
@@ -465,9 +465,12 @@ tree_in_fits (object ms) e =
 
 -- ---- what is read of bytes
 
-pub read_is_formed : (bytes : List ℕ) (r : Result Tree JsonFault) → Answers bytes r → IfOk r (λ t. IsOfForm (tree_of t))
-read_is_formed bytes (Ok t) h =
-    let d = h.0 in
-    let clean = none_first (BreaksForm d) (first_in form.a_tree d) (tree_is_first d (json_in_order bytes d h.1.0)) h.1.1 in
-    (subst (λ x. tree_fits x ≡ true) (made_of bytes t d h.1 h.2) (tree_in_fits d clean), read_rises bytes (Ok t) h)
+-- the tree that the bytes are, where no pointer breaks the form
+pub is_of_form : (bytes : List ℕ) (d : Data) (t : Tree) → FirstMisfit bytes d None → tree_from d ≡ Some t → IsOfForm t
+is_of_form bytes d t h e =
+    let clean = none_first (BreaksForm d) (first_in form.a_tree d) (tree_is_first d (json_in_order bytes d h.0)) h.1 in
+    (subst (λ x. tree_fits x ≡ true) (made_of bytes d t h e) (tree_in_fits d clean), names_rise_in bytes d t h e)
+
+pub read_is_formed : (bytes : List ℕ) (r : Result rust.Tree JsonFault) → Answers bytes r → IfOk r (λ t. IsOfForm (tree_of t))
+read_is_formed bytes (Ok t) h = is_of_form bytes h.0 (tree_of t) h.1 h.2
 read_is_formed bytes (Err x) h = tt
