@@ -31,15 +31,13 @@ fn written(alloc: Global, found: Option<Plan>) -> Result<String, Fail> {
 }
 
 fn expect(rt: &impl Abort, alloc: Global, text: &str, wanted: &str) -> Result<(), Fail> {
-    let tree = match read_tree(alloc, text.as_bytes()) {
-        Ok(tree) => tree,
-        Err(_) => {
-            assert!(rt; false, "{text}");
-            return Ok(());
+    match read_tree(alloc, text.as_bytes()) {
+        Ok(tree) => {
+            let said = written(alloc, find_plan(alloc, &tree)?)?;
+            assert_eq!(rt; said.as_str(), wanted, "{text}");
         }
-    };
-    let said = written(alloc, find_plan(alloc, &tree)?)?;
-    assert_eq!(rt; said.as_str(), wanted, "{text}");
+        Err(_) => assert!(rt; false, "{text}"),
+    }
     Ok(())
 }
 
@@ -110,18 +108,16 @@ fn chain(alloc: Global, length: u32) -> Result<String, Fail> {
         alloc,
         r#"{"format":1,"groups":[{"name":"g","inputs":[{"name":"a","kind":"geometry"}],"outputs":[{"name":"b","kind":"geometry"}],"nodes":[],"output":{"b":{"from":"input","socket":"a"}}}],"nodes":[{"id":"n0","kind":"group","set":{"group":"g"},"in":{"a":{"from":"input","socket":"geometry"}}}"#,
     )?;
+    let mut last = 0u32;
     for number in 1..length {
-        let before = number - 1;
         let node = format!(in alloc;
-            ",{{\"id\":\"n{number}\",\"kind\":\"group\",\"set\":{{\"group\":\"g\"}},\"in\":{{\"a\":{{\"from\":\"n{before}\",\"socket\":\"b\"}}}}}}"
+            ",{{\"id\":\"n{number}\",\"kind\":\"group\",\"set\":{{\"group\":\"g\"}},\"in\":{{\"a\":{{\"from\":\"n{last}\",\"socket\":\"b\"}}}}}}"
         )?;
         text.push_str(&node)?;
+        last = number;
     }
-    let last = format!(in alloc;
-        "],\"output\":{{\"from\":\"n{}\",\"socket\":\"b\"}}}}",
-        length - 1
-    )?;
-    text.push_str(&last)?;
+    let end = format!(in alloc; "],\"output\":{{\"from\":\"n{last}\",\"socket\":\"b\"}}}}")?;
+    text.push_str(&end)?;
     Ok(text)
 }
 
