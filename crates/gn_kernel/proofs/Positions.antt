@@ -1,8 +1,6 @@
-use Rattle.std.proofs.Common.{append-nil, ◌∙◌, ap, ◌+◌, ◌≡◌, ◌++◌, take, drop, ◌<◌, ℕ, zero, suc, List, [], ◌∷◌, map, length, replicate, slice_index_or, slice_get, All, Option, Some, None, ◌≤◌, sym, refl, arith, option_map}
+use Rattle.std.proofs.Common.{◌∙◌, ap, ◌+◌, ◌≡◌, ◌<◌, ℕ, zero, suc, List, [], ◌∷◌, map, length, replicate, slice_index_or, slice_get, All, Some, sym, refl, arith, option_map}
 use Rattle.std.proofs.Math.Numerals.{suc-eq-add-one}
-use Rattle.std.proofs.lemmas.List.{drop_all, take_all}
 use Rattle.std.proofs.lemmas.List.Elements.{All-head, All-tail}
-use Rattle.gn_value.specs.Rows.{value_at}
 use Rattle.gn_value.specs.Registers.{register_kind, register_len, register_value, registers_named}
 use Rattle.gn_value.specs.Values.{converted, kind_of, zero_of}
 use Rattle.gn_value.specs.declared.value.Value.{Value}

@@ -169,6 +169,7 @@ fn many_vectors(op: Op, args: &Arguments, into: &mut [V3])
 #[cfg(test)]
 mod tests {
     use super::*;
+    use crate::of_kind::OfKind;
     use gn_value::op::IntegerMathOp;
     use std::test::Fail;
 
@@ -184,9 +185,7 @@ mod tests {
             op: IntegerMathOp::Divide,
         };
         many(&op, &registers, &[0, 1], &mut quotients);
-        let found = [quotients];
-        let found: &[i32] = Arguments::new(&found, &[0]).list(0, 3);
-        assert_eq!(rt; found, [-3, 0, i32::MAX].as_slice());
+        assert_eq!(rt; i32::list(&quotients), [-3, 0, i32::MAX].as_slice());
         Ok(())
     }
 }

@@ -1,4 +1,4 @@
-use Rattle.std.proofs.Common.{◌<◌, ◌∙◌, ap, arith, if◌then◌else◌, pos, slice_index_or}
+use Rattle.std.proofs.Common.{◌<◌, arith}
 use Rattle.gn_kernel.proofs.Positions.{argument_kind}
 use Rattle.gn_kernel.proofs.selection.pick_by.Goals as goal
 

@@ -1,4 +1,4 @@
-use Rattle.std.proofs.Common.{◌≡◌, ◌+◌, ◌∙◌, ◌<◌, ap, arith, if◌then◌else◌, length, map, pos, slice_get, Some, sym}
+use Rattle.std.proofs.Common.{◌≡◌, ◌+◌, ◌∙◌, ap, arith, if◌then◌else◌, map, pos, slice_get, Some, sym}
 use Rattle.std.specs.Ordering.{int_eq}
 use Rattle.gn_value.specs.Operations.{Takes}
 use Rattle.gn_value.specs.Registers.{register_kind}

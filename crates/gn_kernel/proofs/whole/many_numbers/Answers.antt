@@ -1,5 +1,4 @@
 use Rattle.std.proofs.Common.{rules}
-use Rattle.gn_value.specs.Operations.{gives}
 use Rattle.gn_value.specs.Rows.{row}
 use Rattle.gn_kernel.proofs.whole.many_numbers.Goals as goal
 

@@ -1,4 +1,4 @@
-use Rattle.gn_kernel.proofs.Positions.{argument_kind, argument_long, argument_there, value_of_register}
+use Rattle.gn_kernel.proofs.Positions.{argument_there}
 use Rattle.gn_kernel.proofs.arguments.Arguments.list.Goals as goal
 
 pub get-requires : goal.get-requires
