@@ -4,7 +4,6 @@ use Rattle.gn_lines.specs.Parts.{line_end, from_end, after_blanks, after_word, w
 use Rattle.gn_lines.proofs.Steps.{end_of_line, word_without_backslash, word_before_words, word_with_backslash}
 use Rattle.gn_lines.proofs.reader.next_step.Goals as goal
 
-
 pub returns-in-Some : goal.returns-in-Some
 returns-in-Some c =
     end_of_line c.args.text.now c.in-Some.end.now (cc (c.from_end.ensures, c.after_blanks-front.ensures, c.in-Some.is))
