@@ -1,6 +1,6 @@
-use Rattle.std.proofs.Common.{◌≡◌, ◌∙◌, sym, subst, Some, None, length, [], ◌∷◌, ◌++◌, arith}
+use Rattle.std.proofs.Common.{◌≡◌, ◌∙◌, sym, subst, Some, length, arith}
 use Rattle.std.specs.BTreeMap.{get, Updates}
-use Rattle.gn_edges.specs.Kept.{pair_cmp, number_of}
+use Rattle.gn_edges.specs.Kept.{pair_cmp}
 use Rattle.gn_edges.proofs.Numbers.{at_number, no_number, kept_map, new_crowded, kept_crowded}
 use Rattle.gn_edges.proofs.edges.add_crowded.Goals as goal
 

@@ -1,5 +1,5 @@
-use Rattle.std.proofs.Common.{◌≡◌, ◌∙◌, sym, length, [], ◌∷◌, ◌++◌, get_or, arith}
-use Rattle.gn_edges.specs.Kept.{walk, IsKept}
+use Rattle.std.proofs.Common.{◌≡◌, ◌∙◌, sym, length, get_or, arith}
+use Rattle.gn_edges.specs.Kept.{walk}
 use Rattle.gn_edges.specs.declared.place.Place.TheVariants.{Nowhere}
 use Rattle.gn_edges.proofs.Numbers.{no_number, kept_first, new_listed, kept_listed, few_from}
 use Rattle.gn_edges.proofs.edges.add_listed.Goals as goal

@@ -1,6 +1,6 @@
 use Rattle.std.proofs.Common.{◌≡◌, ◌∙◌, sym, ap, Some, None, true, false}
 use Rattle.gn_lines.specs.Lines.{ends_with_backslash}
-use Rattle.gn_lines.specs.Parts.{line_end, from_end, after_blanks, after_word, word_at}
+use Rattle.gn_lines.specs.Parts.{line_end, after_blanks, after_word, word_at}
 use Rattle.gn_lines.proofs.Steps.{end_of_line, word_without_backslash, word_before_words, word_with_backslash}
 use Rattle.gn_lines.proofs.reader.next_step.Goals as goal
 

@@ -1,4 +1,4 @@
-use Rattle.std.proofs.Common.{◌≡◌, ◌∙◌, ◌≤◌, not, length, sym, ap, subst, map}
+use Rattle.std.proofs.Common.{◌∙◌, not, sym, ap, map}
 use Rattle.std.proofs.lemmas.List.Sums.{prefix_len-le-length}
 use Rattle.std.specs.List.{position_or_len}
 use Rattle.gn_plain.specs.Edges.{is_edge, with_edge}
