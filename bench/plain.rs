@@ -34,7 +34,7 @@ struct Mesh {
 }
 
 impl Mesh {
-    /// The number of the edge between two vertices, which is made where there is none.
+    /// The number of the edge between two vertices, which is made if it is new.
     fn edge(&mut self, a: u32, b: u32) -> u32 {
         let (lesser, greater) = if b < a { (b, a) } else { (a, b) };
         let head = self.first[lesser as usize];
@@ -157,7 +157,7 @@ impl Text<'_> {
         Some(if negative { -raw } else { raw })
     }
 
-    /// The vertex that a reference names, where so many stand above.
+    /// Resolves a reference; `count` vertices stand above it.
     #[inline(always)]
     fn vertex(&mut self, count: u32) -> Option<u32> {
         let negative = self.peek() == b'-';

@@ -109,7 +109,7 @@ class Mesh:
                 self.edges[edge] = self.edges.get(edge, False) or is_of_face
 
     def named(self, words, least):
-        """The vertices that references name, of which there must be so many at least."""
+        """The vertices that references name; `least` is the least number of them."""
         if len(words) < least:
             raise BadLine("O2")
         numbers = [reference(word) for word in words]

@@ -2,94 +2,98 @@
 //!
 //! It hands the real outside to the top call: the files of the current folder, standard output,
 //! standard error and a meter of its own. All that is promised of a command is promised by
-//! `gn_app`, on which it stands beside `gn_io` and `gn_shared`.
+//! `gn_app`, on which it stands beside `gn_io` and `gn_shared`. Words of which one is no text are no
+//! command; the line names the first word that fits none.
 #![tactic(auto)]
 
-use gn_app::{Status, run};
-use gn_io::{FolderShelf, OpenGate, Put, Sink, StdSink};
+ghost use Rattle.std.specs.Prelude.{◌≡◌, map, option_map, string_bytes};
+ghost use Rattle.std.specs.Process.{exit_status};
+ghost use Rattle.gn_app.specs.Ending.{no_memory, said_of};
+ghost use Rattle.gn_app.specs.Run.{Between, Tells, outside_of, shelf_by, sink_by};
+ghost use Rattle.gn_shared.specs.Count.{Count, nothing_noted};
+ghost use Rattle.geonodes.specs.Runs.{IsRun, Runs};
+
+mod words;
+
+use crate::words::{Words, read_words};
+use gn_app::{refuse_stray, refuse_unread, run};
+use gn_io::{FolderShelf, OpenGate, Shelf, Sink, StdSink};
 use gn_shared::Meter;
-use std::env;
-use std::env::FillError;
-use std::io::ErrorKind;
+use std::alloc::Global;
 use std::process::ExitCode;
-use std::rt::Env;
+use std::sync::Wait;
+use std::thread::Threads;
 
 /// What makes and spends the program's meter.
 #[derive(Clone, Copy)]
 struct Seal;
 
-/// How many bytes of a word that is no text are told at most.
-const WORD_ROOM: usize = 4096;
-
-/// Puts the pieces one behind the other, as far as none fails.
-fn put_pieces<E: Sink>(err: &mut E, pieces: &[&[u8]]) {
-    for piece in pieces {
-        match err.put(piece) {
-            Put::All => {}
-            Put::Failed { .. } => return,
-        }
-    }
-}
-
-/// Tells of the first word that is no text, as it came.
-fn tell_stray_word<E: Sink>(rt: &impl Env, err: &mut E) {
-    let mut room = [0u8; WORD_ROOM];
-    for i in 1..usize::MAX {
-        let word = match rt.arg(i, &mut room) {
-            Ok(len) => &room[..len],
-            Err(FillError::TooLong) => continue,
-            Err(FillError::NotPresent) => return,
-        };
-        if str::from_utf8(word).is_err() {
-            let before = b"geonodes: usage: unexpected ".as_slice();
-            return put_pieces(err, &[before, word, b"\n".as_slice()]);
-        }
-    }
-}
-
-/// The words after the program's own name, or why there are none: no memory, or a word that no
-/// command has, since it is no text.
-fn words_of(rt: &(impl Env + AllocGlobal)) -> Result<Vec<String>, Status> {
-    let words = match env::args(rt) {
-        Ok(words) => words,
-        Err(error) if error.kind() == ErrorKind::OutOfMemory => return Err(Status::Memory),
-        Err(_) => return Err(Status::Usage),
-    };
-    match words.skip(1).collect(rt.alloc()) {
-        Ok(words) => Ok(words),
-        Err(_) => Err(Status::Memory),
-    }
-}
-
-/// Tells why there are no words.
-fn refuse<E: Sink>(rt: &impl Env, err: &mut E, status: Status) -> ExitCode {
-    if status == Status::Usage {
-        tell_stray_word(rt, err);
-    } else {
-        put_pieces(err, &[b"geonodes: out of memory\n".as_slice()]);
-    }
-    ExitCode::from(status.code())
-}
-
-fn main(rt: HostRuntime) -> ExitCode {
-    let mut err = StdSink::new(rt.stderr());
-    let words = match words_of(&rt) {
-        Ok(words) => words,
-        Err(status) => return refuse(&rt, &mut err, status),
-    };
-    let mut shelf = FolderShelf::new(&rt);
-    let mut out = StdSink::new(rt.stdout());
+/// Runs the command that the texts spell, with a meter of its own, and returns its exit status.
+fn run_texts<R, H, K, E>(
+    rt: &R,
+    alloc: Global,
+    texts: &[String],
+    shelf: &mut H,
+    out: &mut K,
+    err: &mut E,
+) -> ExitCode
+where
+    R: Threads + Wait + Sync,
+    H: Shelf,
+    K: Sink,
+    E: Sink,
+    ensures { (noted : Count) × Between (outside_of (shelf_by H.holds H.asked H.missed H.faults H.misses) (sink_by K.held K.faults))
+        (shelf.old, out.old, nothing_noted) (shelf.new, out.new, noted)
+        (IsRun (map string_bytes texts.now) (exit_status result) (sink_by E.held E.faults err.old) (sink_by E.held E.faults err.new)) }
+{
     let mut meter = Meter::new(Seal);
-    let status = run(
-        &rt,
-        rt.alloc(),
-        &words,
-        &mut shelf,
-        &mut out,
-        &mut err,
-        &OpenGate,
-        &mut meter,
-    );
+    let status = run(rt, alloc, texts, shelf, out, err, &OpenGate, &mut meter);
     let _ = meter.spend(Seal);
     ExitCode::from(status.code())
 }
+
+/// Runs the command that the words spell, if they spell one, and returns the exit status.
+fn run_words<R, H, K, E>(
+    rt: &R,
+    alloc: Global,
+    words: &Words,
+    shelf: &mut H,
+    out: &mut K,
+    err: &mut E,
+) -> ExitCode
+where
+    R: Threads + Wait + Sync,
+    H: Shelf,
+    K: Sink,
+    E: Sink,
+    ensures { (noted : Count) × Between (outside_of (shelf_by H.holds H.asked H.missed H.faults H.misses) (sink_by K.held K.faults))
+        (shelf.old, out.old, nothing_noted) (shelf.new, out.new, noted)
+        (Runs (map string_bytes words.now.texts.items) (option_map (λ word. word.items) words.now.stray) (exit_status result)
+        (sink_by E.held E.faults err.old) (sink_by E.held E.faults err.new)) }
+{
+    match &words.stray {
+        Some(stray) => ExitCode::from(refuse_stray(&words.texts, stray, err).code()),
+        None => run_texts(rt, alloc, &words.texts, shelf, out, err),
+    }
+}
+
+/// Reports that there is no memory for the words, and returns the exit status.
+fn refuse_words<E: Sink>(err: &mut E) -> ExitCode
+    ensures code { exit_status result ≡ 10 }
+    ensures message { Tells (said_of no_memory) (sink_by E.held E.faults err.old) (sink_by E.held E.faults err.new) }
+{
+    ExitCode::from(refuse_unread(err).code())
+}
+
+fn main(rt: HostRuntime) -> ExitCode {
+    let mut shelf = FolderShelf::new(&rt);
+    let mut out = StdSink::new(rt.stdout());
+    let mut err = StdSink::new(rt.stderr());
+    match read_words(&rt, rt.alloc()) {
+        Ok(words) => run_words(&rt, rt.alloc(), &words, &mut shelf, &mut out, &mut err),
+        Err(_) => refuse_words(&mut err),
+    }
+}
+
+#[cfg(test)]
+mod tests;

@@ -26,7 +26,7 @@ use Rattle.gn_json.specs.Exact.{tree_from}
 use Rattle.gn_plans.specs.Plans.{Plan, IsPlan, HasNoPlan}
 use Rattle.gn_app.specs.Command.{Command, eval, check, help, version}
 use Rattle.gn_app.specs.Ending.{Ending, done, misused, no_file, unreadable, unwritable, no_json, misformed, bad_line, overlong, not_built, no_memory}
-use Rattle.gn_app.specs.Job.{Job, IsTree, BreaksRule, TextGives, TreeGiven, TreeLeads, checked, mesh_given, Giving, Leads, tree_limit, input_limit}
+use Rattle.gn_app.specs.Job.{Job, NeedsNoInput, TreeDecides, IsTree, BreaksRule, TextGives, TreeGiven, TreeLeads, checked, mesh_given, Giving, Leads, tree_limit, input_limit}
 
 -- ---- the first pointer is one
 
@@ -194,3 +194,25 @@ leads_to_one files (check t) r r' (given, h, k) (given', h', k') =
     k ∙ ap checked (one_given t (files tree_limit t) given given' h h') ∙ sym k'
 leads_to_one files help r r' h k = h ∙ sym k
 leads_to_one files version r r' h k = h ∙ sym k
+
+-- ---- what the tree decides
+
+unneeded : (given : Result Tree Ending) (input : Result _ Ending) (work : Job) → NeedsNoInput given → TreeLeads given input (Ok work) → ⊥
+unneeded (Err e) input work none h = let bad : Ok work ≡ Err e = h in cc
+unneeded (Ok t) input work none (inl h) = let bad : Ok work ≡ Err not_built = h.1 in cc
+unneeded (Ok t) input work none (inr h) = not_both t h.0.0 none h.0.1
+
+-- where the tree decides, there is no job
+pub no_job : (files : Giving) (c : Command) (work : Job) → Leads files c (Ok work) → TreeDecides files c → ⊥
+no_job files (eval t o) work (given, h, leads) (given', h', none) =
+    let same = one_given t (files tree_limit t) given given' h h' in
+    unneeded given' (mesh_given o (files input_limit o)) work none (subst (λ g. TreeLeads g (mesh_given o (files input_limit o)) (Ok work)) same leads)
+no_job files (check t) work h none = absurd none
+no_job files help work h none = absurd none
+no_job files version work h none = absurd none
+
+-- a tree that has a plan doesn't decide
+pub not_decided : (files : Giving) (t o : Text) (bytes : List ℕ) (tree : Tree) (plan : Plan) → files tree_limit t ≡ whole bytes → IsTree bytes tree → IsPlan tree plan → TreeDecides files (eval t o) → ⊥
+not_decided files t o bytes tree plan e is planned (given, h, none) =
+    let same : given ≡ Ok tree = one_given t (whole bytes) given (Ok tree) (subst (λ x. TreeGiven t x given) e h) is in
+    not_both tree plan (subst NeedsNoInput same none) planned

@@ -5,23 +5,25 @@ use Rattle.gn_io.specs.Outside.{Files, Names, with_name, Rose}
 use Rattle.gn_io.specs.Files.{FileAnswer, whole, absent, too_long}
 use Rattle.gn_kinds.specs.Row.{Text}
 use Rattle.gn_tree.specs.Trees.{Tree}
+use Rattle.gn_json.proofs.Formed.{is_of_form}
+use Rattle.gn_meaning.proofs.Formed.{has_form}
 use Rattle.gn_plain.specs.Geometry as plain
 use Rattle.gn_geom.specs.Meshes.{MeshArrays, plain_of}
 use Rattle.gn_plans.specs.Plans.{Plan, IsPlan}
 use Rattle.gn_plans.specs.Answers.{plan_of}
 use Rattle.gn_elements.specs.Read.{Bad, mesh}
 use Rattle.gn_rows.proofs.Imports.{spelled_small}
-use Rattle.gn_plan_laws.proofs.Formed.{tree_form}
 use Rattle.gn_app.specs.declared.load.PlannedTree.{PlannedTree}
 use Rattle.gn_app.specs.declared.load.Prepared.{Prepared}
 use Rattle.gn_app.specs.declared.ending.Ending as rust
 use Rattle.gn_app.specs.Seen.{ending_of}
 use Rattle.gn_app.specs.Command.{Command, eval, check, files_of}
 use Rattle.gn_app.specs.Ending.{Ending, done, misused, no_file, unreadable, unwritable, no_json, misformed, bad_line, overlong, not_built, no_memory}
-use Rattle.gn_app.specs.Job.{writing, ok_text, IsTree, TreeGiven, with_mesh, mesh_given, mesh_or_bad, Giving, Leads, tree_limit, input_limit}
-use Rattle.gn_app.specs.Outcome.{Seen, with_names, the_tree, the_input, files_until, name_of, IsLastAsked}
+use Rattle.gn_app.specs.Job.{writing, ok_text, IsTree, TreeGiven, with_mesh, mesh_given, mesh_or_bad, Giving, Leads, TreeDecides, tree_limit, input_limit}
+use Rattle.gn_app.specs.Outcome.{Seen, with_names, the_tree, the_input, files_until, name_of, IsLastAsked, StopsAtTree}
 use Rattle.gn_app.specs.Run.{WhereTold, Told}
 use Rattle.gn_app.specs.Load.{Goes, IsWhole, IsLong, Had, TreeFails, PlanFails, IsPlanned, InputFails, OwnFails, OwnPrepared, LeadsAway, Unprepared, IsPrepared, Prepares}
+use Rattle.gn_app.proofs.Leading.{not_decided}
 use Rattle.gn_app.proofs.Telling.{same_bytes, where_both, where_told, Gives, given_whole, given_long, given_absent, given_beside}
 
 -- ---- names
@@ -54,11 +56,15 @@ rose_since before middle now h r = omega arith
 
 -- ---- the tree
 
+-- a fact of each answer
+wherever : (holds : Option Files) (before after : Option Names) (P : Giving → Type 0) → ((files : Giving) → P files) → WhereTold holds before after P
+wherever None before after P h = tt
+wherever (Some files) None after P h = tt
+wherever (Some files) (Some before) None P h = tt
+wherever (Some files) (Some before) (Some after) P h = h _
+
 anywhere : (holds : Option Files) (before after : Option Names) → WhereTold holds before after (λ files. Unit {0})
-anywhere None before after = tt
-anywhere (Some files) None after = tt
-anywhere (Some files) (Some before) None = tt
-anywhere (Some files) (Some before) (Some after) = tt
+anywhere holds before after = wherever holds before after (λ files. Unit {0}) (λ files. tt)
 
 -- a command whose tree is the file t
 module _ (c : Command) (t : Text) (before now : Seen) (named : name_of the_tree c ≡ Some t) (until : files_until the_tree c ≡ t ∷ []) (first : take 1 (files_of c) ≡ t ∷ []) (tell : (P : Giving → Type 0) → WhereTold before.holds before.missed now.missed P → Told c before now P) (lead : (files : Giving) (e : Ending) → TreeGiven t (files tree_limit t) (Err e) → Leads files c (Err e)) where
@@ -71,6 +77,19 @@ module _ (c : Command) (t : Text) (before now : Seen) (named : name_of the_tree 
   cut_at_tree : ((now.asked ≡ with_name before.asked t) ⊎ (now.asked ≡ before.asked)) → (k : ℕ) × (now.asked ≡ with_names before.asked (take k (files_of c)))
   cut_at_tree (inl e) = (1, e ∙ one_name before.asked t ∙ ap (with_names before.asked) (sym first))
   cut_at_tree (inr e) = (0, e ∙ no_names before.asked)
+
+  -- no other file was asked for
+  only_tree : now.asked ≡ with_name before.asked t → (k : ℕ) × (now.asked ≡ with_names before.asked (take k (files_until the_tree c)))
+  only_tree e = (1, e ∙ one_name before.asked t ∙ ap (λ names. with_names before.asked (take 1 names)) (sym until))
+
+  at_most_tree : ((now.asked ≡ with_name before.asked t) ⊎ (now.asked ≡ before.asked)) → (k : ℕ) × (now.asked ≡ with_names before.asked (take k (files_until the_tree c)))
+  at_most_tree (inl e) = only_tree e
+  at_most_tree (inr e) = (0, e ∙ no_names before.asked)
+
+  stopped_there : (e : Ending) → StopsAtTree c e before.asked now.asked → Told c before now (λ files. TreeDecides files c → StopsAtTree c e before.asked now.asked)
+  stopped_there e h =
+      let P : Giving → Type 0 = λ files. TreeDecides files c → StopsAtTree c e before.asked now.asked in
+      tell P (wherever before.holds before.missed now.missed P (λ files d. h))
 
   -- the tree's file decides the command
   told_tree : (a : FileAnswer) (e : Ending) → TreeGiven t a (Err e) → Gives before.holds before.missed now.missed t tree_limit a → Told c before now (λ files. Leads files c (Err e))
@@ -90,6 +109,7 @@ module _ (c : Command) (t : Text) (before now : Seen) (named : name_of the_tree 
     early = tt;
     asked = last_tree h.1.asked;
     missed = h.1.missed;
+    order = stopped_there (no_file t) (only_tree h.1.asked);
     cause = h.1.rose;
     told = told_tree absent (no_file t) refl (given_absent before.holds before.missed now.missed t tree_limit h.1.missed);
   })
@@ -97,6 +117,7 @@ module _ (c : Command) (t : Text) (before now : Seen) (named : name_of the_tree 
     early = tt;
     asked = last_tree h.1.asked;
     missed = h.1.missed;
+    order = stopped_there (overlong t size) (only_tree h.1.asked);
     cause = record { subject = the_tree; named = named; over = h.2.over; held = h.2.held };
     told = told_tree (too_long size) (overlong t size) refl (given_long before.holds before.missed now.missed t tree_limit size h.1.missed h.2);
   })
@@ -104,6 +125,7 @@ module _ (c : Command) (t : Text) (before now : Seen) (named : name_of the_tree 
     early = tt;
     asked = asked_until had.asked.asked;
     missed = had.asked.missed;
+    order = stopped_there no_json (only_tree had.asked.asked);
     cause = tt;
     told = told_tree (whole bytes) no_json e (had_whole bytes had);
   }
@@ -111,6 +133,7 @@ module _ (c : Command) (t : Text) (before now : Seen) (named : name_of the_tree 
     early = tt;
     asked = asked_until had.asked.asked;
     missed = had.asked.missed;
+    order = stopped_there (misformed rule place) (only_tree had.asked.asked);
     cause = tt;
     told = told_tree (whole bytes) (misformed rule place) broken (had_whole bytes had);
   }
@@ -118,6 +141,7 @@ module _ (c : Command) (t : Text) (before now : Seen) (named : name_of the_tree 
     early = tt;
     asked = last_tree h.1.asked;
     missed = h.1.missed;
+    order = stopped_there (unreadable t) (named, asked_until h.1.asked);
     cause = h.2;
     told = tell (λ files. LeadsAway files c (unreadable t)) (anywhere before.holds before.missed now.missed);
   })
@@ -125,6 +149,7 @@ module _ (c : Command) (t : Text) (before now : Seen) (named : name_of the_tree 
     early = tt;
     asked = cut_at_tree h.asked;
     missed = h.missed;
+    order = stopped_there no_memory (at_most_tree h.asked);
     cause = tt;
     told = tell (λ files. LeadsAway files c no_memory) (anywhere before.holds before.missed now.missed);
   }
@@ -152,11 +177,17 @@ first_file t o = first_of_files t o (bytes_eq t o)
 refused_eval : (t o : Text) (before now : Seen) (e : Ending) → TreeFails t before now e → Unprepared (eval t o) before now e
 refused_eval t o before now = refused_tree (eval t o) t before now refl refl (first_file t o) (λ P h. h) (lead_eval t o)
 
+-- the tree alone was asked for
+only_asked : (t o : Text) (before now : Seen) (e : Ending) → StopsAtTree (eval t o) e before.asked now.asked → Told (eval t o) before now (λ files. TreeDecides files (eval t o) → StopsAtTree (eval t o) e before.asked now.asked)
+only_asked t o before now e h =
+    wherever before.holds before.missed now.missed (λ files. TreeDecides files (eval t o) → StopsAtTree (eval t o) e before.asked now.asked) (λ files d. h)
+
 unplanned : (t o : Text) (before now : Seen) → PlanFails t before now not_built → Unprepared (eval t o) before now not_built
 unplanned t o before now (bytes, had, (tree, is, none)) = record {
   early = tt;
   asked = had.asked.asked ∙ one_name before.asked t;
   missed = had.asked.missed;
+  order = only_asked t o before now not_built (1, had.asked.asked ∙ one_name before.asked t);
   cause = tt;
   told = where_told before.holds before.missed now.missed (λ files. files tree_limit t ≡ whole bytes) (λ files. Leads files (eval t o) (Err not_built)) (λ files same. (Ok tree, subst (λ x. TreeGiven t x (Ok tree)) (sym same) is, inl (none, refl))) (given_whole before.holds before.missed now.missed t tree_limit bytes had.asked.missed had.whole);
 }
@@ -203,6 +234,7 @@ module _ (t : Text) (before now : Seen) (planned : PlannedTree) (read : IsPlanne
     early = tt;
     asked = own_asked;
     missed = read.had.asked.missed;
+    order = only_asked t t before now (bad_line line rule) (1, read.had.asked.asked ∙ one_name before.asked t);
     cause = tt;
     told = own_told (Err (record { line = line; rule = rule })) h;
   }
@@ -223,7 +255,7 @@ module _ (t : Text) (before now : Seen) (planned : PlannedTree) (read : IsPlanne
     missed = read.had.asked.missed;
     tree = read.tree;
     keeps = read.is.3;
-    form = tree_form read.is.0 read.tree read.is.2;
+    form = has_form read.tree (is_of_form planned.bytes.items read.is.0 read.tree read.is.1 read.is.2);
     small = spelled_small planned.bytes.items (plain_of p.mesh) h;
     plan = subst (λ plan. IsPlan read.tree (plan_of plan)) (sym same) read.plan;
     told = own_told (Ok (plain_of p.mesh)) h;
@@ -256,6 +288,16 @@ module _ (t o : Text) (before middle now : Seen) (planned : PlannedTree) (e : by
   tree_kept : now.missed ≡ before.missed → Gives before.holds before.missed now.missed t tree_limit (whole planned.bytes.items)
   tree_kept h = given_whole before.holds before.missed now.missed t tree_limit planned.bytes.items h read.had.whole
 
+  -- the tree is held where the input was missed
+  tree_beside : now.missed ≡ with_name middle.missed o → Gives before.holds before.missed now.missed t tree_limit (whole planned.bytes.items)
+  tree_beside h =
+      given_beside before.holds before.missed now.missed t tree_limit o planned.bytes.items e (h ∙ ap (λ names. with_name names o) read.had.asked.missed) read.had.whole
+
+  -- the tree has a plan, so that it doesn't decide
+  undecided : (x : Ending) → Gives before.holds before.missed now.missed t tree_limit (whole planned.bytes.items) → Told (eval t o) before now (λ files. TreeDecides files (eval t o) → StopsAtTree (eval t o) x before.asked now.asked)
+  undecided x h =
+      where_told before.holds before.missed now.missed (λ files. files tree_limit t ≡ whole planned.bytes.items) (λ files. TreeDecides files (eval t o) → StopsAtTree (eval t o) x before.asked now.asked) (λ files same d. absurd (not_decided files t o planned.bytes.items read.tree (plan_of planned.plan) same read.is read.plan d)) h
+
   -- the input's bytes
   input_told : (bytes : List ℕ) (r : Result plain.Shape Bad) → Had o input_limit middle now bytes → mesh bytes ≡ r → Told (eval t o) before now (λ files. Leads files (eval t o) (with_mesh read.tree (mesh_or_bad r)))
   input_told bytes r had h =
@@ -278,10 +320,11 @@ module _ (t o : Text) (before middle now : Seen) (planned : PlannedTree) (e : by
     early = tt;
     asked = last_input h.1.asked;
     missed = h.1.missed ∙ ap (λ names. with_name names o) read.had.asked.missed;
+    order = undecided (no_file o) (tree_beside h.1.missed);
     cause = rose_since _ _ _ goes.misses h.1.rose;
     told =
         let missed = h.1.missed ∙ ap (λ names. with_name names o) read.had.asked.missed in
-        both absent (given_beside before.holds before.missed now.missed t tree_limit o planned.bytes.items e missed read.had.whole) (given_absent before.holds before.missed now.missed o input_limit missed);
+        both absent (tree_beside h.1.missed) (given_absent before.holds before.missed now.missed o input_limit missed);
   })
   refused_input (overlong name size) h =
       let long : IsLong before.holds o input_limit size = subst (λ holds. IsLong holds o input_limit size) goes.holds h.2 in
@@ -289,6 +332,7 @@ module _ (t o : Text) (before middle now : Seen) (planned : PlannedTree) (e : by
         early = tt;
         asked = last_input h.1.asked;
         missed = same_missed h.1.missed;
+        order = undecided (overlong o size) (tree_kept (same_missed h.1.missed));
         cause = record { subject = the_input; named = refl; over = long.over; held = long.held };
         told = both (too_long size) (tree_kept (same_missed h.1.missed)) (given_long before.holds before.missed now.missed o input_limit size (same_missed h.1.missed) long);
       })
@@ -296,6 +340,7 @@ module _ (t o : Text) (before middle now : Seen) (planned : PlannedTree) (e : by
     early = tt;
     asked = asked_both had.asked.asked;
     missed = same_missed had.asked.missed;
+    order = undecided (bad_line line rule) (tree_kept (same_missed had.asked.missed));
     cause = tt;
     told = input_told bytes (Err (record { line = line; rule = rule })) had h;
   }
@@ -303,6 +348,7 @@ module _ (t o : Text) (before middle now : Seen) (planned : PlannedTree) (e : by
     early = tt;
     asked = last_input h.1.asked;
     missed = same_missed h.1.missed;
+    order = undecided (unreadable o) (tree_kept (same_missed h.1.missed));
     cause = rose_since _ _ _ goes.faults h.2;
     told = anywhere before.holds before.missed now.missed;
   })
@@ -310,6 +356,7 @@ module _ (t o : Text) (before middle now : Seen) (planned : PlannedTree) (e : by
     early = tt;
     asked = cut_at_input h.asked;
     missed = same_missed h.missed;
+    order = undecided no_memory (tree_kept (same_missed h.missed));
     cause = tt;
     told = anywhere before.holds before.missed now.missed;
   }
@@ -320,7 +367,7 @@ module _ (t o : Text) (before middle now : Seen) (planned : PlannedTree) (e : by
     missed = same_missed had.asked.missed;
     tree = read.tree;
     keeps = read.is.3;
-    form = tree_form read.is.0 read.tree read.is.2;
+    form = has_form read.tree (is_of_form planned.bytes.items read.is.0 read.tree read.is.1 read.is.2);
     small = spelled_small bytes (plain_of m) h;
     plan = read.plan;
     told = input_told bytes (Ok (plain_of m)) had h;

@@ -17,14 +17,14 @@ use Rattle.gn_app.specs.declared.load.Prepared.{Prepared}
 use Rattle.gn_app.specs.Seen.{put_ending}
 use Rattle.gn_app.specs.Command.{Command, check, help, version, files_of}
 use Rattle.gn_app.specs.Ending.{Ending, done, misused, no_file, unreadable, unwritable, no_json, misformed, bad_line, overlong, not_built, no_memory}
-use Rattle.gn_app.specs.Job.{Job, evaluation, writing, Giving, Leads, ok_text, help_text, version_text, IsTree, tree_limit}
+use Rattle.gn_app.specs.Job.{Job, evaluation, writing, Giving, Leads, TreeDecides, ok_text, help_text, version_text, IsTree, tree_limit}
 use Rattle.gn_plan_laws.specs.Made.{made, runs_of}
 use Rattle.gn_app.specs.Meaning.{ComesTo, TakesRuns, answers}
-use Rattle.gn_app.specs.Outcome.{Outside, with_names, HasCause, EndsAs, WritesLate, RunsLate, WritesPart, Does, Ends}
+use Rattle.gn_app.specs.Outcome.{Outside, with_names, HasCause, EndsAs, WritesLate, RunsLate, WritesPart, Does, Ends, StopsAtTree}
 use Rattle.gn_app.specs.Run.{Told, IsRunOf, ending_for}
 use Rattle.gn_app.specs.Load.{Goes, Had, LeadsAway, ComesEarly, Unprepared, IsPrepared}
 use Rattle.gn_app.proofs.Telling.{told_map}
-use Rattle.gn_app.proofs.Leading.{leads_to_one}
+use Rattle.gn_app.proofs.Leading.{leads_to_one, no_job}
 use Rattle.gn_app.proofs.Preparing.{one_name, no_names, told_checked}
 use Rattle.gn_plan_laws.proofs.Planned.{plan_stands, plan_demands}
 
@@ -92,6 +92,7 @@ module _ (c : Command) (before now : Outside) where
     cause = h.cause;
     asked = h.asked;
     missed = h.missed;
+    order = h.order;
     writes_late = (early_late e h.early stays).0;
     runs_late = (early_late e h.early stays).1;
     copies = stays.copies;
@@ -99,6 +100,11 @@ module _ (c : Command) (before now : Outside) where
   }
 
   -- ---- an end at the output
+
+  -- where there is a job, the tree doesn't decide
+  beyond_tree : (e : Ending) (work : Job) → Told c before.shelf now.shelf (λ files. Leads files c (Ok work)) → Told c before.shelf now.shelf (λ files. TreeDecides files c → StopsAtTree c e before.shelf.asked now.shelf.asked)
+  beyond_tree e work =
+      told_map c before.shelf now.shelf (λ files. Leads files c (Ok work)) (λ files. TreeDecides files c → StopsAtTree c e before.shelf.asked now.shelf.asked) (λ files leads d. absurd (no_job files c work leads d))
 
   -- all is known but how the text of the job went in
   pub record Reaches (text : Text) : Type 0 where
@@ -132,6 +138,7 @@ module _ (c : Command) (before now : Outside) where
     cause = tt;
     asked = h.asked;
     missed = h.missed;
+    order = beyond_tree done h.work h.told;
     writes_late = (text, e);
     runs_late = omega (arith, h.runs);
     copies = h.copies;
@@ -143,6 +150,7 @@ module _ (c : Command) (before now : Outside) where
     cause = tt;
     asked = h.asked;
     missed = h.missed;
+    order = beyond_tree (unwritable taken) h.work h.told;
     writes_late = record { piece = take e.0 text; output = e.2; length_is = e.3 ∙ ap stopped (sym (length-take-le e.0 text e.1)); rose = rose };
     runs_late = omega (arith, h.runs);
     copies = h.copies;
@@ -157,6 +165,7 @@ module _ (c : Command) (before now : Outside) where
         early = tt;
         asked = (length (files_of c), h.asked ∙ ap (with_names before.shelf.asked) all);
         missed = h.missed;
+        order = beyond_tree no_memory (evaluation h.tree (plain_of p.mesh)) h.told;
         cause = tt;
         told = told_map c before.shelf now.shelf (λ files. Leads files c (Ok (evaluation h.tree (plain_of p.mesh)))) (λ files. LeadsAway files c no_memory) (λ files l. tt) h.told;
       })

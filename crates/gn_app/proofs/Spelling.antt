@@ -1,9 +1,9 @@
 -- Words that spell a command.
-use Rattle.std.proofs.Common.{◌≡◌, ◌<◌, true, false, List, [], ◌∷◌, length, map, Option, Some, None, Result, Ok, Err, String, string_bytes, refl, sym, ap, ◌∙◌, subst, arith, codes, Bor}
+use Rattle.std.proofs.Common.{◌≡◌, ◌<◌, true, false, List, [], ◌∷◌, length, map, Option, Some, None, Result, Ok, Err, String, string_bytes, refl, sym, ap, ◌∙◌, subst, arith, codes, Bor, append-nil, option_map}
 use Rattle.std.specs.declared.alloc.Global.{Global}
 use Rattle.std.specs.Prelude.{bytes_eq}
 use Rattle.gn_kinds.specs.Row.{Text}
-use Rattle.gn_app.specs.Command.{Command, eval, check, help, version, Spells, SpellsNone, Begins, IsMisfit}
+use Rattle.gn_app.specs.Command.{Command, eval, check, help, version, Spells, SpellsNone, Begins, IsMisfit, Misfits}
 use Rattle.gn_app.specs.declared.request.Request.{Request}
 use Rattle.gn_app.specs.declared.request.Request.TheVariants.{Eval, Check, Help, Version}
 use Rattle.gn_app.specs.Seen.{command_of}
@@ -191,3 +191,12 @@ first_unknown ws rest k a x b d word e ka kx kb kd kw ea ex eb ed =
     let not_help : bytes_eq word.now (codes "--help") ≡ false = ap (λ t. bytes_eq t (codes "--help")) (kw ∙ sym kb) ∙ eb in
     let not_version : bytes_eq word.now (codes "--version") ≡ false = ap (λ t. bytes_eq t (codes "--version")) (kw ∙ sym kd) ∙ ed in
     subst (λ words. Reads words (Err (Some word))) all (unknown_first word (map string_bytes rest) not_eval not_check not_help not_version)
+
+-- a command begins with words that spell one
+pub begins_whole : (words : List Text) (c : Command) → Spells words c → Begins words
+begins_whole words c h =
+    record { command = c; more = []; spelled = subst (λ l. Spells l c) (sym (append-nil words)) h }
+
+-- where no word is named, a command begins with the words
+pub begins_unnamed : (words : List Text) (word : Option (Bor Text)) → word ≡ None → Misfits words (option_map (λ w. w.now) word) → Begins words
+begins_unnamed words word e = subst (λ o. Misfits words (option_map (λ w. w.now) o) → Begins words) (sym e) (λ h. h)

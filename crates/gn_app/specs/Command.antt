@@ -1,5 +1,5 @@
 -- The commands, as the words that spell them.
-use Rattle.std.specs.Prelude.{◌≡◌, List, [], ◌∷◌, ◌++◌, Option, Some, None, bytes_eq, codes, if◌then◌else◌}
+use Rattle.std.specs.Prelude.{◌≡◌, ◌⊎◌, List, [], ◌∷◌, ◌++◌, Option, Some, None, bytes_eq, codes, if◌then◌else◌}
 use Rattle.gn_kinds.specs.Row.{Text}
 use Rattle.gn_io.specs.Outside.{Names}
 
@@ -39,6 +39,10 @@ pub record IsMisfit (words : List Text) (word : Text) : Type 0 where
 abbrev pub Misfits : List Text → Option Text → Type 0
 Misfits words (Some word) = IsMisfit words word
 Misfits words None = Begins words
+
+-- the first word that fits no command, where a word that is no text, and so fits none, stands behind these words
+abbrev pub StrayMisfit : List Text → Text → Text → Type 0
+StrayMisfit words stray word = IsMisfit words word ⊎ (Begins words × (word ≡ stray))
 
 -- the files of a command in order: the tree and then the input, unless they are one
 abbrev pub files_of : Command → Names

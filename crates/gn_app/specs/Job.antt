@@ -96,6 +96,17 @@ TreeLeads (Err e) input r = r ≡ Err e
 TreeLeads (Ok t) input r =
     (HasNoPlan t × (r ≡ Err not_built)) ⊎ (((plan : Plan) × IsPlan t plan) × (r ≡ with_mesh t input))
 
+-- no input is needed where there is no tree, or the tree has no plan
+abbrev pub NeedsNoInput : Result Tree Ending → Type 0
+NeedsNoInput (Err e) = Unit {0}
+NeedsNoInput (Ok t) = HasNoPlan t
+
+-- the tree alone decides how the command ends, as its input would come later
+abbrev pub TreeDecides : Giving → Command → Type 0
+TreeDecides files (eval tree obj) =
+    (given : Result Tree Ending) × TreeGiven tree (files tree_limit tree) given × NeedsNoInput given
+TreeDecides files _ = ⊥
+
 abbrev pub checked : Result Tree Ending → Result Job Ending
 checked (Ok t) = Ok (writing ok_text)
 checked (Err e) = Err e

@@ -21,8 +21,8 @@ use Rattle.gn_app.specs.Seen.{ending_of}
 use Rattle.gn_app.specs.Command.{Command}
 use Rattle.gn_app.specs.Ending as endings
 use Rattle.gn_app.specs.Ending.{done, misused, no_file, unreadable, unwritable, no_json, misformed, bad_line, overlong, not_built, no_memory}
-use Rattle.gn_app.specs.Job.{evaluation, Giving, IsTree, BreaksRule, Leads, tree_limit, input_limit}
-use Rattle.gn_app.specs.Outcome.{Seen, AsksFor, Misses, HasCause}
+use Rattle.gn_app.specs.Job.{evaluation, Giving, IsTree, BreaksRule, Leads, TreeDecides, tree_limit, input_limit}
+use Rattle.gn_app.specs.Outcome.{Seen, AsksFor, StopsAtTree, Misses, HasCause}
 use Rattle.gn_app.specs.Run.{Told}
 
 -- the counts don't fall, and what is held stays
@@ -153,6 +153,7 @@ pub record Unprepared (c : Command) (before now : Seen) (ending : endings.Ending
   pub early : ComesEarly ending
   pub asked : AsksFor c ending before.asked now.asked
   pub missed : Misses ending before.missed now.missed
+  pub order : Told c before now (λ files. TreeDecides files c → StopsAtTree c ending before.asked now.asked)
   pub cause : HasCause c before now ending
   pub told : Told c before now (λ files. LeadsAway files c ending)
 

@@ -70,6 +70,11 @@ AsksFor c (overlong name size) before now = IsLastAsked c name before now
 AsksFor c no_memory before now = (k : ℕ) × (now ≡ with_names before (take k (files_of c)))
 AsksFor c (misused word) before now = ⊥
 
+-- the run went no further than to the tree: no other file was asked for, and one that can't be read is the tree
+abbrev pub StopsAtTree : Command → Ending → Option Names → Option Names → Type 0
+StopsAtTree c (unreadable name) before now = (name_of the_tree c ≡ Some name) × (now ≡ with_names before (files_until the_tree c))
+StopsAtTree c ending before now = (k : ℕ) × (now ≡ with_names before (take k (files_until the_tree c)))
+
 -- the names missed: the one that no file has, and no other
 abbrev pub Misses : Ending → Option Names → Option Names → Type 0
 Misses (no_file name) before now = now ≡ with_name before name

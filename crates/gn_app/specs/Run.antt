@@ -5,10 +5,10 @@ use Rattle.gn_io.specs.Files.{file_answer, gained}
 use Rattle.gn_shared.specs.Count.{Count}
 use Rattle.gn_kinds.specs.Row.{Text}
 use Rattle.gn_app.specs.declared.status.Status.{Status}
-use Rattle.gn_app.specs.Command.{Command, eval, check, Spells, SpellsNone, Misfits}
+use Rattle.gn_app.specs.Command.{Command, eval, check, Spells, SpellsNone, Misfits, StrayMisfit}
 use Rattle.gn_app.specs.Ending.{Ending, done, misused, status_of, said_of, line_of}
-use Rattle.gn_app.specs.Job.{Job, Giving, Leads}
-use Rattle.gn_app.specs.Outcome.{Seen, Taken, Outside, AsksFor, Misses, HasCause, EndsAs, WritesLate, RunsLate, Ends, Says}
+use Rattle.gn_app.specs.Job.{Job, Giving, Leads, TreeDecides}
+use Rattle.gn_app.specs.Outcome.{Seen, Taken, Outside, AsksFor, StopsAtTree, Misses, HasCause, EndsAs, WritesLate, RunsLate, Ends, Says}
 
 -- what is known of a shelf, by the meanings of its kind
 abbrev pub shelf_by : {S : Type 0} → (S → Option Files) → (S → Option Names) → (S → Option Names) → (S → ℕ) → (S → ℕ) → S → Seen
@@ -54,10 +54,12 @@ pub record IsRunOf (c : Command) (ending : Ending) (before now : Outside) : Type
   -- the files asked for, and those missed
   pub asked : AsksFor c ending before.shelf.asked now.shelf.asked
   pub missed : Misses ending before.shelf.missed now.shelf.missed
+  -- where the tree decides, the input isn't asked for, whatever the end is
+  pub order : Told c before.shelf now.shelf (λ files. TreeDecides files c → StopsAtTree c ending before.shelf.asked now.shelf.asked)
   -- nothing is written and no node runs but where the run came to its output
   pub writes_late : WritesLate ending before.output now.output
   pub runs_late : RunsLate ending before.runs now.runs
-  -- no array is copied, and what is held stays
+  -- the meter notes no copy, and what is held stays
   pub copies : now.copies ≡ before.copies
   pub holds : now.shelf.holds ≡ before.shelf.holds
 
@@ -84,3 +86,9 @@ pub record IsCall (words : List Text) (status : Status) (told told' : Taken) (be
   pub status_is : status ≡ status_of ending
   pub run : IsRunOfWords words ending before now
   pub message : Tells (said_of ending) told told'
+
+-- the message where a word that is no text stands behind words
+pub record TellsStray (words : List Text) (stray : Text) (told told' : Taken) : Type 0 where
+  pub word : Text
+  pub misfit : StrayMisfit words stray word
+  pub message : Tells (said_of (misused (Some word))) told told'

@@ -128,7 +128,7 @@ pub(crate) fn prepare<'a, H: Shelf>(
 {
     let planned = match load_plan(alloc, shelf, tree) {
         Ok(planned) => planned,
-        Err(ending) => return Err(ending),
+        Err(refusal) => return Err(refusal),
     };
     if tree == input {
         return own_input(alloc, planned);

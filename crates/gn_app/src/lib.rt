@@ -21,10 +21,12 @@ mod files;
 mod load;
 mod message;
 mod moving;
+mod refusal;
 mod request;
 mod status;
 
 pub use command::{run, run_alone};
+pub use refusal::{refuse_stray, refuse_unread};
 pub use status::Status;
 
 #[cfg(test)]

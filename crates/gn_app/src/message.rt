@@ -1,6 +1,7 @@
 ghost use Rattle.std.specs.Prelude.{◌≡◌, ◌≤◌, ◌++◌, flat_map};
 ghost use Rattle.gn_io.specs.Outside.{Rose};
-ghost use Rattle.gn_app.specs.Ending.{misformed, bad_line, said_of};
+ghost use Rattle.std.specs.Prelude.{Some};
+ghost use Rattle.gn_app.specs.Ending.{misformed, bad_line, misused, no_memory, said_of};
 ghost use Rattle.gn_app.specs.Outcome.{Says};
 ghost use Rattle.gn_app.specs.Run.{Tells, sink_by};
 ghost use Rattle.gn_app.specs.Seen.{ending_of};
@@ -86,4 +87,17 @@ pub(crate) fn tell<E: Sink>(err: &mut E, ending: &Ending<'_>)
         Ending::NotBuilt => put_pieces(err, &["geonodes: not built\n"]),
         Ending::NoMemory => put_pieces(err, &["geonodes: out of memory\n"]),
     }
+}
+
+/// Writes the line of a word that fits no command, as it came: it need not be a text. It takes no memory.
+pub(crate) fn tell_stray<E: Sink>(err: &mut E, word: &[u8])
+    ensures { Tells (said_of (misused (Some word.now))) (sink_by E.held E.faults err.old) (sink_by E.held E.faults err.new) }
+{
+    let Put::All = err.put("geonodes: usage: unexpected ".as_bytes()) else {
+        return;
+    };
+    let Put::All = err.put(word) else {
+        return;
+    };
+    let _ = err.put("\n".as_bytes());
 }

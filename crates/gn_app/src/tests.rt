@@ -1,9 +1,10 @@
 use super::*;
-use gn_io::{MemShelf, MemSink};
+use gn_io::{MemShelf, MemSink, OpenGate};
 use gn_shared::Meter;
 use std::alloc::Global;
 use std::collections::BTreeMap;
 use std::process::Abort;
+use std::sync::Wait;
 use std::test::Fail;
 use std::thread::Threads;
 
@@ -26,6 +27,13 @@ const EVAL: [&str; 3] = ["eval", "t.json", "in.obj"];
 const CHECK: [&str; 2] = ["check", "t.json"];
 
 const NAMES: [&str; 2] = ["t.json", "in.obj"];
+
+/// The calls that run words.
+#[derive(Clone, Copy)]
+enum Call {
+    Run,
+    RunAlone,
+}
 
 /// What came of a run.
 #[derive(Drop)]
@@ -69,12 +77,13 @@ fn names_asked(alloc: Global, shelf: &MemShelf) -> Result<Vec<String>, Fail> {
     Ok(names)
 }
 
-/// Runs words over files in memory. The fetch with that number fails, and so do the put to the
+/// Runs words over files in memory by one of the calls. The fetch with that number fails, and so do the put to the
 /// output and the put to the sink of messages with those numbers, which take that many bytes.
-fn run_over<R: Abort + Threads + Sync>(
+fn run_by<R: Abort + Threads + Wait + Sync>(
     rt: &R,
     alloc: Global,
-    words: &[&str],
+    call: Call,
+    words: &[String],
     tree: &str,
     input: &str,
     fail: u64,
@@ -84,7 +93,6 @@ fn run_over<R: Abort + Threads + Sync>(
     let mut files = BTreeMap::new(alloc);
     add_file(alloc, &mut files, "t.json", tree)?;
     add_file(alloc, &mut files, "in.obj", input)?;
-    let words = words_of(alloc, words)?;
     let fail = [fail].to_vec(alloc)?;
     let stop = [stop].to_vec(alloc)?;
     let mute = [mute].to_vec(alloc)?;
@@ -92,9 +100,13 @@ fn run_over<R: Abort + Threads + Sync>(
     let mut out = MemSink::new(alloc, stop, 4096)?;
     let mut err = MemSink::new(alloc, mute, 4096)?;
     let mut meter = Meter::new(());
-    let status = run_alone(
-        rt, alloc, &words, &mut shelf, &mut out, &mut err, &mut meter,
-    );
+    let (shelf_lent, out_lent, err_lent) = (&mut shelf, &mut out, &mut err);
+    let status = match call {
+        Call::Run => run(
+            rt, alloc, words, shelf_lent, out_lent, err_lent, &OpenGate, &mut meter,
+        ),
+        Call::RunAlone => run_alone(rt, alloc, words, shelf_lent, out_lent, err_lent, &mut meter),
+    };
     let (runs, copies) = meter.spend(());
     assert_eq!(rt; copies, 0);
     Ok(Outcome {
@@ -106,23 +118,53 @@ fn run_over<R: Abort + Threads + Sync>(
     })
 }
 
-/// Compares what came of a run, which asked for the first `asked` of the two files.
+/// Runs words as `run_by` does by both calls.
+fn run_over<R: Abort + Threads + Wait + Sync>(
+    rt: &R,
+    alloc: Global,
+    words: &[&str],
+    tree: &str,
+    input: &str,
+    fail: u64,
+    stop: (u64, u64),
+    mute: (u64, u64),
+) -> Result<[Outcome; 2], Fail> {
+    let words = words_of(alloc, words)?;
+    let words = words.as_slice();
+    let waiting = run_by(rt, alloc, Call::Run, words, tree, input, fail, stop, mute)?;
+    let alone = run_by(
+        rt,
+        alloc,
+        Call::RunAlone,
+        words,
+        tree,
+        input,
+        fail,
+        stop,
+        mute,
+    )?;
+    Ok([waiting, alone])
+}
+
+/// Compares what came of both runs, each of which asked for the first `asked` of the two files.
 fn compare(
     rt: &impl Abort,
-    seen: &Outcome,
+    outcomes: &[Outcome; 2],
     status: Status,
     text: &str,
     said: &str,
     asked: usize,
     runs: u64,
 ) {
-    assert_eq!(rt; seen.status, status);
-    assert_eq!(rt; seen.text.as_slice(), text.as_bytes());
-    assert_eq!(rt; seen.said.as_slice(), said.as_bytes());
-    assert_eq!(rt; seen.runs, runs);
-    assert_eq!(rt; seen.asked.len(), asked);
-    for (name, wanted) in seen.asked.iter().zip(NAMES) {
-        assert_eq!(rt; name.as_str(), wanted);
+    for seen in outcomes.iter() {
+        assert_eq!(rt; seen.status, status);
+        assert_eq!(rt; seen.text.as_slice(), text.as_bytes());
+        assert_eq!(rt; seen.said.as_slice(), said.as_bytes());
+        assert_eq!(rt; seen.runs, runs);
+        assert_eq!(rt; seen.asked.len(), asked);
+        for (name, wanted) in seen.asked.iter().zip(NAMES) {
+            assert_eq!(rt; name.as_str(), wanted);
+        }
     }
 }
 
@@ -405,7 +447,7 @@ fn well_formed_trees_are_checked_alone(rt: HostRuntime) -> Result<(), Fail> {
     let said = "geonodes: write fault after 2 bytes\n";
     compare(&rt, &seen, Status::WriteFault, "ok", said, 1, 0);
     for tree in [IMPORT_TREE, SWITCH_TREE].iter() {
-        let seen = run_over(&rt, rt.alloc(), &EVAL, tree, ABSENT, 0, NONE, NONE)?;
+        let seen = run_over(&rt, rt.alloc(), &EVAL, tree, ABSENT, 2, NONE, NONE)?;
         compare(
             &rt,
             &seen,
@@ -428,13 +470,8 @@ const FLOAT_FROM_NUMBER: &str =
 
 /// As many opening brackets and as many closing ones.
 fn brackets(alloc: Global, count: usize) -> Result<String, Fail> {
-    let mut text = String::new(alloc);
-    for _ in 0..count {
-        text.push_str("[")?;
-    }
-    for _ in 0..count {
-        text.push_str("]")?;
-    }
+    let mut text = "[".repeat(alloc, count)?;
+    text.push_str("]".repeat(alloc, count)?.as_str())?;
     Ok(text)
 }
 
@@ -458,7 +495,8 @@ fn trees_that_are_not_well_formed_are_reported(rt: HostRuntime) -> Result<(), Fa
         ),
     ];
     for (tree, status, said) in cases.iter() {
-        let seen = run_over(&rt, rt.alloc(), &EVAL, tree, TRIANGLE, 0, NONE, NONE)?;
+        // a second fetch would fail, and there is none
+        let seen = run_over(&rt, rt.alloc(), &EVAL, tree, TRIANGLE, 2, NONE, NONE)?;
         compare(&rt, &seen, *status, "", said, 1, 0);
         let seen = run_over(&rt, rt.alloc(), &CHECK, tree, ABSENT, 0, NONE, NONE)?;
         compare(&rt, &seen, *status, "", said, 1, 0);
@@ -469,9 +507,8 @@ fn trees_that_are_not_well_formed_are_reported(rt: HostRuntime) -> Result<(), Fa
 /// The lifting tree with spaces behind it, up to a length.
 fn padded(alloc: Global, length: usize) -> Result<String, Fail> {
     let mut text = String::from_str(alloc, LIFT)?;
-    for _ in LIFT.len()..length {
-        text.push_str(" ")?;
-    }
+    let spaces = " ".repeat(alloc, length.saturating_sub(LIFT.len()))?;
+    text.push_str(spaces.as_str())?;
     Ok(text)
 }
 
@@ -516,24 +553,44 @@ fn an_input_has_at_most_128_mebibytes(rt: HostRuntime) -> Result<(), Fail> {
 
 /// That many vertices, and a last line.
 fn many_vertices(alloc: Global, count: usize, last: &str) -> Result<String, Fail> {
-    let mut text = String::new(alloc);
-    for _ in 0..count {
-        text.push_str("v 0 0 0\n")?;
-    }
+    let mut text = "v 0 0 0\n".repeat(alloc, count)?;
     text.push_str(last)?;
     Ok(text)
 }
 
 #[test]
 fn a_mesh_has_at_most_8388608_vertices(rt: HostRuntime) -> Result<(), Fail> {
-    let cases = [
-        ("f 1 2\n", "geonodes: obj text: line 8388609: O2\n"),
-        ("v 0 0 0\n", "geonodes: obj text: line 8388609: O5\n"),
+    let input = many_vertices(rt.alloc(), 8_388_608, "v 0 0 0\n")?;
+    let seen = run_over(&rt, rt.alloc(), &EVAL, LIFT, input.as_str(), 0, NONE, NONE)?;
+    let said = "geonodes: obj text: line 8388609: O5\n";
+    compare(&rt, &seen, Status::ObjText, "", said, 2, 0);
+    Ok(())
+}
+
+#[test]
+fn a_mesh_may_have_8388608_vertices(rt: HostRuntime) -> Result<(), Fail> {
+    let input = many_vertices(rt.alloc(), 8_388_608, "f 1 2\n")?;
+    let seen = run_over(&rt, rt.alloc(), &EVAL, LIFT, input.as_str(), 0, NONE, NONE)?;
+    let said = "geonodes: obj text: line 8388609: O2\n";
+    compare(&rt, &seen, Status::ObjText, "", said, 2, 0);
+    Ok(())
+}
+
+#[test]
+fn a_word_that_is_no_text_is_named_unless_one_before_it_fits_nothing(
+    rt: HostRuntime,
+) -> Result<(), Fail> {
+    let cases: [(&[&str], &[u8]); 4] = [
+        (&[], b"geonodes: usage: unexpected \xFF\n"),
+        (&["eval", "t.json"], b"geonodes: usage: unexpected \xFF\n"),
+        (&["--help"], b"geonodes: usage: unexpected \xFF\n"),
+        (&["--help", "me"], b"geonodes: usage: unexpected me\n"),
     ];
-    for (last, said) in cases.iter() {
-        let input = many_vertices(rt.alloc(), 8_388_608, last)?;
-        let seen = run_over(&rt, rt.alloc(), &EVAL, LIFT, input.as_str(), 0, NONE, NONE)?;
-        compare(&rt, &seen, Status::ObjText, "", said, 2, 0);
+    for (words, said) in cases.iter() {
+        let words = words_of(rt.alloc(), words)?;
+        let mut err = MemSink::new(rt.alloc(), Vec::new(rt.alloc()), 4096)?;
+        assert_eq!(rt; refuse_stray(&words, b"\xFF", &mut err), Status::Usage);
+        assert_eq!(rt; err.held(), *said);
     }
     Ok(())
 }

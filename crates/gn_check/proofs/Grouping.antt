@@ -3,13 +3,13 @@ use Rattle.std.proofs.Common.{◌≡◌, ℕ, zero, suc, ◌<◌, ◌≤◌, Lis
 use Rattle.std.specs.Prelude.{option_map, slice_get}
 use Rattle.std.specs.Option.{option_map_or}
 use Rattle.std.proofs.lemmas.Option.{slice_get-get_or, slice_get-map, slice_get_past}
-use Rattle.gn_tree.specs.Trees as t
+use Rattle.gn_tree.specs.Trees as trees
 use Rattle.gn_tree.specs.Seen.{socket_of, nodes_of}
 use Rattle.gn_rules.specs.Sockets.{node_at}
 use Rattle.gn_check.specs.Groups.{lists_in}
 use Rattle.gn_check.specs.declared.sockets.Sockets.{Sockets}
 
-list_of : Sockets → List t.Socket
+list_of : Sockets → List trees.Socket
 list_of x = map socket_of x.list.now
 
 has_one : {A B : Type 0} (f : A → List B) (o : Option A) (y : List B) → option_map f o ≡ Some y → y ≡ option_map_or f o []
@@ -20,7 +20,7 @@ has_none : {A B : Type 0} (f : A → List B) (o : Option A) → option_map f o �
 has_none f None e = refl
 has_none f (Some a) e = absurd (cc)
 
-module _ {G : Type 0} (f : G → List t.Socket) where
+module _ {G : Type 0} (f : G → List trees.Socket) where
   same_position : (all : List Sockets) (gs : List G) (i : ℕ) → lists_in all ≡ map f gs → option_map f (slice_get gs i) ≡ option_map list_of (slice_get all i)
   unfolding list_of
   same_position all gs i e = sym (slice_get-map f gs i) ∙ (ap (λ xs. slice_get xs i) (sym e) ∙ slice_get-map list_of all i)
@@ -33,10 +33,10 @@ module _ {G : Type 0} (f : G → List t.Socket) where
   past_position all gs i none e h r = ap (map socket_of) r ∙ has_none f (slice_get gs i) (same_position all gs i e ∙ ap (option_map list_of) (slice_get_past all i h))
 
 -- a node by its number, in both ways of writing lists of nodes
-pub node_at_seen : (xs : List t.Node) (i : ℕ) → node_at (nodes_of xs) i ≡ slice_get xs i
+pub node_at_seen : (xs : List trees.Node) (i : ℕ) → node_at (nodes_of xs) i ≡ slice_get xs i
 node_at_seen xs i = node_seen xs i
   where
-    node_seen : (xs : List t.Node) (i : ℕ) → node_at (nodes_of xs) i ≡ slice_get xs i
+    node_seen : (xs : List trees.Node) (i : ℕ) → node_at (nodes_of xs) i ≡ slice_get xs i
     node_seen [] zero = refl
     node_seen [] (suc i) = refl
     node_seen (x ∷ xs) zero = refl

@@ -1,14 +1,14 @@
 -- What is kept of the groups of a tree.
 use Rattle.std.specs.Prelude.{List, map}
-use Rattle.gn_tree.specs.Trees as t
+use Rattle.gn_tree.specs.Trees as trees
 use Rattle.gn_tree.specs.Seen.{socket_of}
 use Rattle.gn_check.specs.declared.sockets.Sockets.{Sockets}
 use Rattle.gn_check.specs.declared.groups.Side.{Side}
 use Rattle.gn_check.specs.declared.groups.Side.TheVariants as side
 
-abbrev pub lists_in : List Sockets → List (List t.Socket)
+abbrev pub lists_in : List Sockets → List (List trees.Socket)
 lists_in xs = map (λ x. map socket_of x.list.now) xs
 
-abbrev pub side_of : Side → t.Group → List t.Socket
+abbrev pub side_of : Side → trees.Group → List trees.Socket
 side_of side.Inputs g = g.inputs
 side_of side.Outputs g = g.outputs

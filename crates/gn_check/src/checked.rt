@@ -1,6 +1,6 @@
 ghost use Rattle.std.specs.Prelude.{◌≡◌, IfOk, option_map};
 ghost use Rattle.gn_pointers.specs.Seen.{pointer_of};
-ghost use Rattle.gn_tree.specs.Rising.{NamesRiseInTree};
+ghost use Rattle.gn_tree.specs.Form.{IsOfForm};
 ghost use Rattle.gn_tree.specs.Seen.{tree_of};
 ghost use Rattle.gn_rules.specs.Walk as walk;
 ghost use Rattle.gn_rules.specs.Walk.{Tells};
@@ -63,7 +63,8 @@ fn judge(
     tree: Tree,
     found: Result<Option<(Rule, VecDeque<Step>)>, Memory>,
 ) -> Result<GoodTree, CheckFault>
-    requires { IfOk found (λ named. Tells (tree_of tree) (option_map (λ x. (x.0, pointer_of x.1)) named)) }
+    requires formed { IsOfForm (tree_of tree) }
+    requires named { IfOk found (λ named. Tells (tree_of tree) (option_map (λ x. (x.0, pointer_of x.1)) named)) }
     ensures { Answers (tree_of tree) result }
 {
     match found {
@@ -79,9 +80,7 @@ fn judge(
     }
 }
 
-/// Checks a tree that is of its form by the rules F2 to F7. In it, the inputs of each node, and what
-/// each zone and each group gives out, stand in the order of their names' bytes, as in what
-/// `gn_json::read` gives.
+/// Checks a tree that is of its form, as each that `gn_json::read` returns, by the rules F2 to F7.
 ///
 /// # Errors
 ///
@@ -89,7 +88,7 @@ fn judge(
 /// a JSON Pointer: an object stands before its members, arrays go by index, keys by bytes. `Memory`
 /// where there was no memory.
 pub fn check(alloc: Global, tree: Tree) -> Result<GoodTree, CheckFault>
-    requires { NamesRiseInTree (tree_of tree) }
+    requires { IsOfForm (tree_of tree) }
     ensures { Answers (tree_of tree) result }
 {
     let found = first_broken(alloc, &tree);

@@ -1,5 +1,5 @@
 ghost use Rattle.std.specs.Prelude.{◌≡◌, IfOk, map, List};
-ghost use Rattle.gn_kinds.specs.Seen as rows;
+ghost use Rattle.gn_kinds.specs.Seen as seen;
 ghost use Rattle.gn_tree.specs.Seen.{socket_of};
 ghost use Rattle.gn_rules.specs.Sockets as rule;
 ghost use Rattle.gn_rules.specs.Things.{socket_names};
@@ -32,7 +32,7 @@ fn of_values(kind: ValueKind) -> SocketKind
 }
 
 fn input_name(row: InputRow) -> &'static str
-    ensures { (chosen : SocketKind) → result.now ≡ (rule.input_of_row chosen (rows.input_of row)).name }
+    ensures { (chosen : SocketKind) → result.now ≡ (rule.input_of_row chosen (seen.input_of row)).name }
 {
     match row {
         InputRow::Field(name, _, _) => name,
@@ -45,7 +45,7 @@ fn input_name(row: InputRow) -> &'static str
 
 /// What an input takes, where the setting `type` names the kind.
 fn input_shape(row: InputRow, chosen: SocketKind) -> Shape
-    ensures { result ≡ (rule.input_of_row chosen (rows.input_of row)).shape }
+    ensures { result ≡ (rule.input_of_row chosen (seen.input_of row)).shape }
 {
     match row {
         InputRow::Field(_, kind, _) => single(of_values(kind)),
@@ -60,7 +60,7 @@ fn input_shape(row: InputRow, chosen: SocketKind) -> Shape
 }
 
 fn output_name(row: OutputRow) -> &'static str
-    ensures { (chosen : SocketKind) → result.now ≡ (rule.output_of_row chosen (rows.output_of row)).name }
+    ensures { (chosen : SocketKind) → result.now ≡ (rule.output_of_row chosen (seen.output_of row)).name }
 {
     match row {
         OutputRow::Field(name, _) => name,
@@ -71,7 +71,7 @@ fn output_name(row: OutputRow) -> &'static str
 
 /// What an output gives, where the setting `type` names the kind.
 fn output_shape(row: OutputRow, chosen: SocketKind) -> Shape
-    ensures { result ≡ (rule.output_of_row chosen (rows.output_of row)).shape }
+    ensures { result ≡ (rule.output_of_row chosen (seen.output_of row)).shape }
 {
     match row {
         OutputRow::Field(_, kind) => single(of_values(kind)),
@@ -82,7 +82,7 @@ fn output_shape(row: OutputRow, chosen: SocketKind) -> Shape
 
 /// The rows of the inputs of a kind of node.
 pub(crate) fn input_rows(kind: &str) -> &'static [InputRow]
-    ensures { map rows.input_of result.now ≡ rule.inputs_of_kind kind.now }
+    ensures { map seen.input_of result.now ≡ rule.inputs_of_kind kind.now }
 {
     match find_row(kind) {
         Some(row) => row.inputs,
@@ -91,7 +91,7 @@ pub(crate) fn input_rows(kind: &str) -> &'static [InputRow]
 }
 
 fn output_rows(kind: &str) -> &'static [OutputRow]
-    ensures { map rows.output_of result.now ≡ rule.outputs_of_kind kind.now }
+    ensures { map seen.output_of result.now ≡ rule.outputs_of_kind kind.now }
 {
     match find_row(kind) {
         Some(row) => row.outputs,
@@ -105,7 +105,7 @@ pub(crate) fn find_input(
     chosen: SocketKind,
     name: &str,
 ) -> Option<Shape>
-    ensures { result ≡ rule.declared (map (rule.input_of_row chosen) (map rows.input_of inputs.now)) name.now }
+    ensures { result ≡ rule.declared (map (rule.input_of_row chosen) (map seen.input_of inputs.now)) name.now }
 {
     for row in inputs {
         if name == input_name(*row) {

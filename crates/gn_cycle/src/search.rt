@@ -1,6 +1,6 @@
 ghost use Rattle.std.specs.Prelude.{◌≡◌, List, IfOk, OnOk, Decides, length};
 ghost use Rattle.gn_cycle.specs.Graph.{Leads, lists, has};
-ghost use Rattle.gn_cycle.specs.Search as spec;
+ghost use Rattle.gn_cycle.specs.Search as search;
 ghost use Rattle.gn_cycle.specs.Search.{State, with_node, with_nodes};
 
 use crate::targets::targets_of;
@@ -9,8 +9,8 @@ use std::alloc::Global;
 
 /// Marks the node, and returns whether it exists and had no mark.
 fn mark(marks: &mut Vec<bool>, node: usize) -> bool
-    ensures marked { marks.new.items ≡ spec.mark marks.old.items node }
-    ensures is_new { result ≡ spec.is_new marks.old.items node }
+    ensures marked { marks.new.items ≡ search.mark marks.old.items node }
+    ensures is_new { result ≡ search.is_new marks.old.items node }
 {
     if node < marks.len() && !marks[node] {
         marks[node] = true;

@@ -1,13 +1,14 @@
 -- What a list of digits is worth, and where the digits at the front of a text end.
-use Rattle.std.proofs.Common.{◌≡◌, ℕ, ◌+◌, ◌-◌, ◌*◌, ◌^◌, ◌<◌, ◌≤◌, true, false, List, [], ◌∷◌, ◌++◌, length, take, drop, get_or, refl, ap, sym, ◌∙◌, arith, pow-suc, mul-le-mul_right}
+use Rattle.std.proofs.Common.{◌≡◌, ℕ, ◌+◌, ◌-◌, ◌*◌, ◌^◌, ◌<◌, ◌≤◌, min, true, false, List, [], ◌∷◌, ◌++◌, length, take, drop, get_or, refl, ap, sym, ◌∙◌, arith, pow-suc, mul-le-mul_right}
 use Rattle.std.specs.Char.{digit_value, is_ascii_digit}
 use Rattle.std.specs.List.{list_all, prefix_len}
 use Rattle.std.specs.Str.Parse.{AllDigits, digits_value, digits_value_after}
 use Rattle.std.proofs.lemmas.Bool.Decides.{nat_tests}
 use Rattle.std.proofs.lemmas.Bool.{and_parts, and_from}
-use Rattle.std.proofs.lemmas.List.{take_at, drop_at, take_all, drop_all, take_more, length-take-le, take-append-drop}
+use Rattle.std.proofs.lemmas.List.{take_at, drop_at, take_all, drop_all, take_more, length-take, length-take-le, take-append-drop}
 use Rattle.std.proofs.lemmas.List.Folds.{prefix_len-append}
 use Rattle.std.proofs.lemmas.List.Sums.{prefix_len-drop_no}
+use Rattle.std.proofs.Math.Nat.{pow-le-pow_right}
 use Rattle.std.proofs.lemmas.Str.Parse.{digit_from_value}
 use Rattle.std.proofs.lemmas.Int.Digits.{digits_value_more}
 use Rattle.gn_decimal.specs.Decimal.{digits_of, after_digits}
@@ -62,6 +63,16 @@ digits_value-below (c ∷ cs) h =
     let rest = digits_value-below cs parts.1 in
     let most : digit_value c * 10 ^ length cs ≤ 9 * 10 ^ length cs = mul-le-mul_right (10 ^ length cs) (omega arith) in
     rw (digits_value-cons c cs, pow-suc 10 (length cs)) (omega arith)
+
+-- the same of the first bytes of a text
+pub value_below : (xs : List ℕ) (i : ℕ) → list_all is_ascii_digit (take i xs) ≡ true → digits_value 10 (take i xs) < 10 ^ min i (length xs)
+value_below xs i all = rw (← length-take i xs) (digits_value-below (take i xs) all)
+
+-- up to eighteen digits fit 64 bits
+pub short_value : (xs : List ℕ) (i : ℕ) → i ≤ 18 → list_all is_ascii_digit (take i xs) ≡ true → digits_value 10 (take i xs) < 10 ^ 18
+short_value xs i h all =
+    let power = pow-le-pow_right {n = 10} (omega arith) {i = min i (length xs)} {j = 18} (omega arith) in
+    omega (arith, value_below xs i all)
 
 -- ---- where the digits at the front of a text end
 

@@ -1,12 +1,13 @@
 -- Digits that are written from the last to the first.
-use Rattle.std.proofs.Common.{◌≡◌, ℕ, zero, suc, ◌+◌, ◌-◌, ◌*◌, ◌/◌, ◌%◌, ◌^◌, ◌<◌, ◌≤◌, List, [], ◌∷◌, ◌++◌, length, take, drop, set, refl, ap, sym, ◌∙◌, inl, inr, arith, decimal, pow-suc, add-one, append_assoc, length-append, eq-zero-or-pos, mul_comm, mod-lt, mod-eq_of_lt, div-add-mod', div-one, add_assoc, subst, take-append-drop, add-zero}
+use Rattle.std.proofs.Common.{◌≡◌, ◌==◌, ◌&&◌, eqb-true, Bool, true, get_or, ℕ, zero, suc, ◌+◌, ◌-◌, ◌*◌, ◌/◌, ◌%◌, ◌^◌, ◌<◌, ◌≤◌, List, [], ◌∷◌, ◌++◌, length, take, drop, set, refl, ap, sym, ◌∙◌, inl, inr, arith, decimal, pow-suc, add-one, append_assoc, length-append, length-set, eq-zero-or-pos, mul_comm, mod-lt, mod-eq_of_lt, div-add-mod', div-one, add_assoc, subst, take-append-drop, add-zero}
 use Rattle.std.proofs.Math.Nat.{pow-le-pow_right, div-div-eq-div-mul}
-use Rattle.std.proofs.lemmas.Bool.{cases_lt}
+use Rattle.std.proofs.lemmas.Bool.{and_parts, cases_lt}
 use Rattle.std.proofs.lemmas.Fmt.{decimal_by_steps, decimal_is_IsNumeral, length-decimal-le}
-use Rattle.std.proofs.lemmas.List.{drop-set, length_push, take-take, take_more_set, take_at, length-take-le}
+use Rattle.std.proofs.lemmas.List.{drop-set, length_push, take-set, take-take, take_more_set, take_at, length-take-le}
 use Rattle.std.proofs.lemmas.Nat.{mod-mul-add}
 use Rattle.gn_decimal.specs.Decimal.{fraction_digits, nearest, ten_billionths_of}
 use Rattle.gn_decimal.specs.Padded.{padded}
+use Rattle.gn_decimal.specs.declared.printer.TheConstants.{PAIRS}
 use Rattle.gn_decimal.proofs.Digits.{digits_value-below, list_all-from_AllDigits}
 use Rattle.gn_decimal.proofs.Nearest.{nearest-within, nearest_scaled, nearest_shifted}
 use Rattle.gn_decimal.proofs.Printing.{first_digit, fraction_digits-more, fraction_digits-none, no_places}
@@ -138,6 +139,20 @@ write_step place left at into rest some room before =
     let same = subst (λ p. padded p left ++ drop (at + p) into ≡ rest) next before in
     step_digits (place - 1) left at into rest (omega arith) same
 
+-- two digits more before those that are written
+pub write_two : (place left at : ℕ) (into rest : List ℕ) → 1 < place → at + place ≤ length into → padded place left ++ drop (at + place) into ≡ rest → padded (place - 2) (left / 100) ++ drop (at + (place - 2)) (set (set into (at + (place - 2) + 1) (48 + left % 100 % 10)) (at + (place - 2)) (48 + left % 100 / 10)) ≡ rest
+write_two place left at into rest some room before =
+    let ones = set into (at + (place - 1)) (48 + left % 10) in
+    let len : length (set into (at + (place - 1)) (48 + left % 10)) ≡ length into = length-set into (at + (place - 1)) (48 + left % 10) in
+    let one = write_step place left at into rest (omega arith) room before in
+    let two = write_step (place - 1) (left / 10) at ones rest (omega arith) (omega arith) one in
+    let less : place - 2 ≡ place - 1 - 1 = omega arith in
+    let behind : at + (place - 1 - 1) + 1 ≡ at + (place - 1) = omega arith in
+    let tens : left / 100 ≡ left / 10 / 10 = omega arith in
+    let last : left % 100 % 10 ≡ left % 10 = omega arith in
+    let first : left % 100 / 10 ≡ left / 10 % 10 = omega arith in
+    rw (less, behind, tens, last, first) two
+
 pub take_less : (m n : ℕ) (xs ys : List ℕ) → m ≤ n → take n xs ≡ take n ys → take m xs ≡ take m ys
 take_less m n xs ys h e = sym (take-take m n xs h) ∙ ap (take m) e ∙ take-take m n ys h
 
@@ -149,8 +164,18 @@ write_end place left at into old rest none digits before =
     let front = rw (add-zero at) at (subst (λ p. take (at + p) into ≡ take (at + p) old) zero before) in
     sym (take-append-drop at into) ∙ ap (λ xs. xs ++ drop at into) front ∙ ap (λ ys. take at old ++ ys) behind
 
-pub write_first : (xs : List ℕ) (y : ℕ) → 0 < length xs → take 1 (set xs 0 y) ≡ y ∷ []
-write_first xs y some = take_more_set xs 0 y some
+-- and the first one of an odd number of digits
+pub write_last : (place left at : ℕ) (into old rest : List ℕ) → 0 < place → place ≤ 1 → at + place ≤ length into → padded place left ++ drop (at + place) into ≡ rest → take (at + place) into ≡ take (at + place) old → set into at (48 + left % 10) ≡ take at old ++ rest
+write_last place left at into old rest some one room digits before =
+    let written = set into at (48 + left % 10) in
+    let first : at + (place - 1) ≡ at = omega arith in
+    let step = write_step place left at into rest some room digits in
+    let behind = subst (λ k. padded (place - 1) (left / 10) ++ drop (at + (place - 1)) (set into k (48 + left % 10)) ≡ rest) first step in
+    let front = take-set into at (48 + left % 10) ∙ take_less at (at + place) into old (omega arith) before in
+    write_end (place - 1) (left / 10) at written old rest (omega arith) behind (rw first front)
+
+pub write_one : (xs : List ℕ) (at y : ℕ) → at < length xs → take (at + 1) (set xs at y) ≡ take at xs ++ y ∷ []
+write_one xs at y room = take_more_set xs at y room
 
 pub take_written : (at count n : ℕ) (old rest : List ℕ) → at ≤ length old → count ≡ length (decimal n) → n < 2 ^ 64 → take (at + count) (take at old ++ (padded count n ++ rest)) ≡ take at old ++ decimal n
 take_written at count n old rest h e fits =
@@ -158,3 +183,22 @@ take_written at count n old rest h e fits =
     let len = length-append (take at old) (decimal n) in
     let front = length-take-le at old h in
     rw (e, text, ← append_assoc (take at old) (decimal n) rest) (take_at (take at old ++ decimal n) rest (at + length (decimal n)) (omega arith))
+
+-- the digits of each pair
+abbrev are_pairs : ℕ → Bool
+are_pairs zero = true
+are_pairs (suc n) = (get_or PAIRS (n * 2) 0 == 48 + n / 10 && get_or PAIRS (n * 2 + 1) 0 == 48 + n % 10) && are_pairs n
+
+pair_below : (count n : ℕ) → are_pairs count ≡ true → n < count → (get_or PAIRS (n * 2) 0 ≡ 48 + n / 10) × (get_or PAIRS (n * 2 + 1) 0 ≡ 48 + n % 10)
+pair_below zero n h below = absurd (omega arith)
+pair_below (suc count) n h below =
+    let parts = and_parts (get_or PAIRS (count * 2) 0 == 48 + count / 10 && get_or PAIRS (count * 2 + 1) 0 == 48 + count % 10) (are_pairs count) h in
+    elim (cases_lt n count) [
+      | inl lt ↦ pair_below count n parts.1 lt
+      | inr ge ↦ let same : n ≡ count = omega arith in
+          let here = and_parts (get_or PAIRS (count * 2) 0 == 48 + count / 10) (get_or PAIRS (count * 2 + 1) 0 == 48 + count % 10) parts.0 in
+          rw same (eqb-true _ _ here.0, eqb-true _ _ here.1)
+    ]
+
+pub pair_at : (n : ℕ) → n < 100 → (get_or PAIRS (n * 2) 0 ≡ 48 + n / 10) × (get_or PAIRS (n * 2 + 1) 0 ≡ 48 + n % 10)
+pair_at n below = pair_below 100 n refl below

@@ -1,5 +1,5 @@
 -- Units of 10 ^ -18, and the raw number nearest to them.
-use Rattle.std.proofs.Common.{◌≡◌, ℕ, ◌+◌, ◌-◌, ◌*◌, ◌/◌, ◌%◌, ◌^◌, ◌<◌, ◌≤◌, min, refl, ap, sym, ◌∙◌, inl, inr, arith, mul_assoc, mul-le-mul_right, mul-le-mul_left, eq-zero-or-pos, div-add-mod', mod-lt, mul-lt-mul_of_pos_right}
+use Rattle.std.proofs.Common.{◌≡◌, ℕ, ◌+◌, ◌-◌, ◌*◌, ◌/◌, ◌^◌, ◌<◌, ◌≤◌, min, refl, ap, sym, ◌∙◌, inl, inr, arith, mul_assoc, mul-le-mul_right, mul-le-mul_left, eq-zero-or-pos, mul-lt-mul_of_pos_right}
 use Rattle.std.proofs.Math.Nat.{div-div-eq-div-mul, div-mul-le_self, div-eq_of_eq-mul_left, one-le-pow, pow-le-pow_right, mul-div-mul_right, div-eq_of_lt, le_trans}
 use Rattle.std.proofs.lemmas.Bool.{cases_lt}
 use Rattle.std.proofs.lemmas.Nat.{pow-add, le-div}
@@ -63,20 +63,18 @@ units_of_split whole part power rest nine =
     let wholes = ap (λ p. whole * p) nine in
     omega arith
 
-pub raw_of_places : (digits places : ℕ) → places < 10 → raw_of (units digits 0 places) ≡ digits / 10 ^ places * 2 ^ 32 + nearest (digits % 10 ^ places * 10 ^ (9 - places) * 2 ^ 32) (10 ^ 9)
+pub raw_of_places : (whole part places : ℕ) → places < 10 → part < 10 ^ places → raw_of (units (whole * 10 ^ places + part) 0 places) ≡ whole * 2 ^ 32 + nearest (part * 10 ^ (9 - places) * 2 ^ 32) (10 ^ 9)
 unfolding raw_of
-raw_of_places digits places h =
+raw_of_places whole part places h below =
     let power = 10 ^ places in
     let rest = 10 ^ (9 - places) in
-    let whole = digits / 10 ^ places in
-    let part = digits % 10 ^ places in
-    let split = div-add-mod' digits (10 ^ places) in
+    let digits = whole * 10 ^ places + part in
     let both : places + (9 - places) ≡ 9 = omega arith in
     let nine : 10 ^ places * 10 ^ (9 - places) ≡ 10 ^ 9 = sym (pow-add 10 places (9 - places)) ∙ ap (λ k. 10 ^ k) both in
     let left : 0 + 18 - places ≡ 9 - places + 9 = omega arith in
     let more : 10 ^ (0 + 18 - places) ≡ 10 ^ (9 - places) * 10 ^ 9 = ap (λ k. 10 ^ k) left ∙ pow-add 10 (9 - places) 9 in
     let product = units_of_product digits 0 places (omega arith) ∙ ap (λ p. digits * p) more in
-    let all = ap (λ u. u * 2 ^ 32) product ∙ ap (λ d. d * (rest * 10 ^ 9) * 2 ^ 32) (sym split) ∙ units_of_split whole part power rest nine in
+    let all = ap (λ u. u * 2 ^ 32) product ∙ units_of_split whole part power rest nine in
     let scaled = nearest_scaled (part * rest * 2 ^ 32) (10 ^ 9) (10 ^ 9) (omega arith) in
     rw (all, nearest_shifted (whole * 2 ^ 31) (part * rest * 2 ^ 32 * 10 ^ 9) (10 ^ 18) (omega arith)) (omega arith)
 
@@ -84,11 +82,11 @@ raw_of_places digits places h =
 pub nearest_of_part : (part : ℕ) → part < 10 ^ 9 → nearest (part * 2 ^ 32) (10 ^ 9) ≤ 2 ^ 32
 nearest_of_part part h = let near = nearest-within (part * 2 ^ 32) (10 ^ 9) (omega arith) in omega arith
 
-pub part_fits : (digits places : ℕ) → places < 10 → digits % 10 ^ places * 10 ^ (9 - places) < 10 ^ 9
-part_fits digits places h =
+pub part_fits : (part places : ℕ) → places < 10 → part < 10 ^ places → part * 10 ^ (9 - places) < 10 ^ 9
+part_fits part places h below =
     let both : places + (9 - places) ≡ 9 = omega arith in
     let nine : 10 ^ places * 10 ^ (9 - places) ≡ 10 ^ 9 = sym (pow-add 10 places (9 - places)) ∙ ap (λ k. 10 ^ k) both in
-    rw (← nine) (mul-lt-mul_of_pos_right (mod-lt digits (pow_ten_pos places)) (pow_ten_pos (9 - places)))
+    rw (← nine) (mul-lt-mul_of_pos_right below (pow_ten_pos (9 - places)))
 
 -- ---- digits that are dropped
 

@@ -1,5 +1,5 @@
 -- The text of a raw number, from the parts that are written one after another.
-use Rattle.std.proofs.Common.{◌≡◌, ℕ, suc, ◌*◌, ◌/◌, ◌%◌, ◌^◌, ◌<◌, List, [], ◌∷◌, ◌++◌, ℤ, pos, negsuc, FitsSigned, w64, decimal, unsigned_abs, refl, arith, if◌then◌else◌, le-ltb, ne_eqb, true, false, ◌==◌, ◌||◌}
+use Rattle.std.proofs.Common.{◌≡◌, ℕ, suc, ◌*◌, ◌/◌, ◌%◌, ◌^◌, ◌<◌, List, [], ◌∷◌, ◌++◌, ℤ, pos, negsuc, FitsSigned, w64, decimal, unsigned_abs, refl, ap, ◌∙◌, append_assoc, arith, if◌then◌else◌, le-ltb, ne_eqb, true, false, ◌==◌, ◌||◌}
 use Rattle.std.specs.Int.{is_negative}
 use Rattle.gn_decimal.specs.Decimal.{dec, fraction_digits, is_number_byte, nearest, point_and_digits, ten_billionths_of, ten_billionths_text}
 use Rattle.gn_decimal.proofs.Digits.{list_all-from_AllDigits}
@@ -27,6 +27,14 @@ dec_parts (pos n) =
 dec_parts (negsuc n) =
     let some = ne_eqb (ten_billionths_of (suc n)) 0 (λ e. omega (arith, ten_billionths-pos (suc n) (omega arith))) in
     rw (some, text_of_parts (suc n)) refl
+
+-- the same behind other bytes
+pub dec_behind : (front : List ℕ) (z : ℤ) → ((front ++ (if is_negative z then 45 ∷ [] else [])) ++ decimal (unsigned_abs z / 2 ^ 32)) ++ point_and_digits (nearest (unsigned_abs z % 2 ^ 32 * 9765625) (2 ^ 22)) ≡ front ++ dec z
+dec_behind front z =
+    let sign = if is_negative z then 45 ∷ [] else [] in
+    let whole = decimal (unsigned_abs z / 2 ^ 32) in
+    let point = point_and_digits (nearest (unsigned_abs z % 2 ^ 32 * 9765625) (2 ^ 22)) in
+    ap (λ ds. ds ++ point) (append_assoc front sign whole) ∙ append_assoc front (sign ++ whole) point ∙ ap (λ ds. front ++ ds) (dec_parts z)
 
 -- ---- the bytes of a printed text
 

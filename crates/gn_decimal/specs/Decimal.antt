@@ -1,5 +1,5 @@
 -- What number a decimal text is, and what text a fixed number is printed as.
-use Rattle.std.specs.Prelude.{ℕ, zero, suc, ◌+◌, ◌*◌, ◌/◌, ◌%◌, ◌^◌, Bool, not, ◌&&◌, ◌||◌, ◌==◌, nat_lt, nat_le, if◌then◌else◌, List, [], ◌∷◌, ◌++◌, length, drop, Option, Some, None, option_map, take_while, ℤ, pos, neg_ℤ, slice_index, unsigned_abs}
+use Rattle.std.specs.Prelude.{◌≡◌, min, ℕ, zero, suc, ◌+◌, ◌*◌, ◌/◌, ◌%◌, ◌^◌, Bool, not, ◌&&◌, ◌||◌, ◌==◌, nat_lt, nat_le, if◌then◌else◌, List, [], ◌∷◌, ◌++◌, length, drop, Option, Some, None, option_map, take_while, ℤ, pos, neg_ℤ, slice_index, unsigned_abs}
 use Rattle.std.specs.List.{list_all, prefix_len}
 use Rattle.std.specs.Char.{is_ascii_digit}
 use Rattle.std.specs.Int.{is_negative}
@@ -90,6 +90,10 @@ raw_of n = nearest (n * 2 ^ 32) (10 ^ 18)
 
 unfoldable pub magnitude_of : Parts → ℕ
 magnitude_of p = raw_of (units (digits_number p) (tens_up p) (tens_down p))
+
+-- the text of no sign is a number with that absolute raw number, up to the greatest
+abbrev pub has_magnitude : List ℕ → ℕ → Type 0
+has_magnitude text m = Some m ≡ option_map (λ p. min (magnitude_of p) (2 ^ 63)) (parts_of text)
 
 -- the raw number of a text, if it is a number
 unfoldable pub num : List ℕ → Option ℤ

@@ -3,6 +3,7 @@
 //! `read` gives the fixed number that is nearest to a decimal number, for a text of any length, and
 //! `print` writes the nearest number of at most ten places behind the point. What is printed is read
 //! as the same number, for each number there is. Both take no memory, and go over the text once.
+//! `write_number` and `write_whole` write behind what stands in a buffer.
 //! The crate stands on the fixed numbers of `gn_value`, and on `thiserror`.
 #![tactic(auto)]
 
@@ -11,7 +12,7 @@ mod reader;
 mod rounding;
 mod significand;
 
-pub use printer::print;
+pub use printer::{print, write_number, write_whole};
 pub use reader::read;
 use thiserror::Error;
 

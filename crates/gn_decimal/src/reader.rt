@@ -1,12 +1,18 @@
-ghost use Rattle.std.specs.Prelude.{◌≡◌, ℕ, ◌+◌, ◌*◌, ◌^◌, ◌<◌, ◌≤◌, length, min, OnErr, IfOk, None, Some, option_map, IfSome};
+ghost use Rattle.std.specs.Prelude.{◌≡◌, ℕ, ◌+◌, ◌*◌, ◌^◌, ◌<◌, ◌≤◌, ◌∷◌, length, min, OnErr, IfOk, None, Some, option_map, IfSome};
 ghost use Rattle.std.specs.Str.Parse.{digits_value, digits_value_after, starts_with_minus, without_leading_sign};
-ghost use Rattle.gn_decimal.specs.Decimal.{after_digits, after_fraction, digits_of, exponent_of, fraction_of, small_number, magnitude_of, num, parts_of, signed_exponent};
+ghost use Rattle.gn_decimal.specs.Decimal.{after_digits, after_fraction, digits_of, exponent_of, fraction_of, has_magnitude, small_number, magnitude_of, num, parts_of, signed_exponent};
 ghost use Rattle.gn_decimal.specs.Kept.{Keeps, dropped_of};
 
 use crate::NotANumber;
-use crate::rounding::magnitude;
+use crate::rounding::{magnitude, short_magnitude};
 use crate::significand::Significand;
 use gn_value::Fx;
+
+/// How long a text is at most whose digits fit 64 bits in any case.
+const SHORT: usize = 18;
+
+/// How many places behind the point are rounded in 64 bits.
+const PLACES: usize = 9;
 
 /// The digits that were read so far, how many were read last, and the text behind them.
 #[derive(Drop)]
@@ -123,8 +129,63 @@ fn read_exponent(text: &[u8]) -> Option<i32>
     }
 }
 
-/// The absolute raw number of a text without a sign, or 2^63 where it is more.
+/// The number that the digits at the front of a short text write, and how many there are.
 #[inline(always)]
+#[tactic(auto, using(crate::proofs::Digits::all_digits_more, crate::proofs::Digits::value_more, crate::proofs::Digits::short_value))]
+fn leading_digits(text: &[u8]) -> (u64, usize)
+    requires { length text.now ≤ 18 }
+    ensures value { result.0 ≡ digits_value 10 (digits_of text.now) }
+    ensures count { result.1 ≡ length (digits_of text.now) }
+    ensures below { result.0 < 10 ^ result.1 }
+{
+    let mut number = 0;
+    for (i, byte) in text.iter().enumerate() {
+        if !byte.is_ascii_digit() {
+            return (number, i);
+        }
+        number = number * 10 + u64::from(*byte - b'0');
+    }
+    (number, text.len())
+}
+
+/// What follows the point that the text begins with.
+#[inline(always)]
+fn behind_point(text: &[u8]) -> Option<&[u8]>
+    ensures { IfSome result (λ fraction. text.now ≡ 46 ∷ fraction.now) }
+{
+    match text {
+        [b'.', fraction @ ..] => Some(fraction),
+        _ => None,
+    }
+}
+
+/// The absolute raw number of a text as most numbers are written: a short one of digits, and perhaps
+/// a point and then one to nine places. Other texts are read by `read_magnitude`.
+#[inline(always)]
+fn read_short(text: &[u8]) -> Option<u64>
+    ensures { IfSome result (has_magnitude text.now) }
+{
+    if text.len() > SHORT {
+        return None;
+    }
+    let (whole, count) = leading_digits(text);
+    if count == 0 {
+        return None;
+    }
+    if count == text.len() {
+        return Some(short_magnitude(whole, 0, 0));
+    }
+    let fraction = behind_point(&text[count..])?;
+    let (part, places) = leading_digits(fraction);
+    if places != fraction.len() || places > PLACES || places == 0 {
+        return None;
+    }
+    Some(short_magnitude(whole, part, places))
+}
+
+/// The absolute raw number of a text without a sign, or 2^63 where it is more.
+#[cold]
+#[inline(never)]
 #[tactic(auto, using(crate::proofs::Reading::magnitude_of_parts), unfolding(crate::specs::Decimal::parts_of))]
 fn read_magnitude(text: &[u8]) -> Option<u64>
     ensures { result ≡ option_map (λ p. min (magnitude_of p) (2 ^ 63)) (parts_of text.now) }
@@ -156,8 +217,9 @@ pub fn read(text: &[u8]) -> Result<Fx, NotANumber>
     ensures no_number { OnErr result (num text.now ≡ None) }
 {
     let (is_negative, unsigned) = split_sign(text);
-    let Some(magnitude) = read_magnitude(unsigned) else {
-        return Err(NotANumber);
+    let magnitude = match read_short(unsigned) {
+        Some(magnitude) => magnitude,
+        None => read_magnitude(unsigned).ok_or(NotANumber)?,
     };
     Ok(Fx(if is_negative {
         0i64.saturating_sub_unsigned(magnitude)

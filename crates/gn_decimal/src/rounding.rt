@@ -124,19 +124,27 @@ fn long_magnitude(digits: u128, up: usize, down: usize) -> u64
     }
 }
 
-/// The raw number nearest to `digits / 10^places`, or 2^63 where it is more, at nine places or fewer.
+/// The raw number nearest to `whole + part / 10^places`, or 2^63 where it is more, at nine places or fewer.
 #[inline(always)]
-fn short_magnitude(digits: u64, places: usize) -> u64
+pub fn short_magnitude(whole: u64, part: u64, places: usize) -> u64
+    requires few { places < 10 }
+    requires part { part < 10 ^ places }
+    ensures { result ≡ min (raw_of (units (whole * 10 ^ places + part) 0 places)) GREATEST }
+{
+    if whole >= WHOLES_OUT_OF_RANGE {
+        return GREATEST;
+    }
+    let billionths = part * power_of_ten(9 - places);
+    whole * RAW_ONE + nearest(billionths * RAW_ONE, BILLION)
+}
+
+/// The same of digits of which the last `places` stand behind the point.
+fn split_magnitude(digits: u64, places: usize) -> u64
     requires { places < 10 }
     ensures { result ≡ min (raw_of (units digits 0 places)) GREATEST }
 {
     let power = power_of_ten(places);
-    let whole = digits / power;
-    if whole >= WHOLES_OUT_OF_RANGE {
-        return GREATEST;
-    }
-    let billionths = digits % power * power_of_ten(9 - places);
-    whole * RAW_ONE + nearest(billionths * RAW_ONE, BILLION)
+    short_magnitude(digits / power, digits % power, places)
 }
 
 /// The same at ten to eighteen places, where the number is in range.
@@ -157,7 +165,7 @@ pub fn magnitude(digits: Significand, up: usize, down: usize) -> u64
 {
     match digits {
         Significand::Short(number) if up <= down && down - up < 10 => {
-            short_magnitude(number, down - up)
+            split_magnitude(number, down - up)
         }
         Significand::Short(number) if up <= down && down - up < 19 => {
             medium_magnitude(number, down - up)

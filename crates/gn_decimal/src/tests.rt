@@ -112,3 +112,12 @@ fn prints_numbers(rt: HostRuntime) {
         assert_eq!(rt; read_back(Fx(raw)), Ok(Fx(raw)), "{raw}");
     }
 }
+
+#[test]
+fn writes_behind_what_stands_there(rt: HostRuntime) {
+    let mut into = *b"v .......................................";
+    let number = write_number(Fx(-429_496_730), &mut into, 2);
+    into[number] = b' ';
+    let end = write_whole(1_000_907, &mut into, number + 1);
+    assert_eq!(rt; &into[..end], b"v -0.1000000001 1000907".as_slice());
+}

@@ -15,6 +15,9 @@ use std::marker::Model;
 /// How many edges can be in lists, so that a link fits 32 bits.
 const LINKED: usize = 0xffff_ffff;
 
+/// How many more links than are needed are made at once.
+const SPARE: usize = 1024;
+
 /// Different edges in the order in which they came, the lesser vertex of each first.
 #[derive(Drop)]
 pub struct Edges {
@@ -39,6 +42,7 @@ impl Model for Edges {
 }
 
 /// The link to the first edge of a vertex.
+#[inline(always)]
 fn first_link(first: &[u32], vertex: u32) -> u32
     ensures { result ≡ first_link first.now vertex }
 {
@@ -51,18 +55,20 @@ fn first_link(first: &[u32], vertex: u32) -> u32
 }
 
 /// Makes room for the link of a vertex.
+#[inline(always)]
 fn make_room(first: &mut Vec<u32>, vertex: u32) -> Result<(), Memory>
     ensures same { (v : ℕ) → first_link first.new.items v ≡ first_link first.old.items v }
     ensures room { OnOk result (vertex < length first.new.items) }
 {
     let count = vertex as usize + 1;
     if first.len() < count {
-        first.resize(count, 0)?;
+        first.resize(count + SPARE, 0)?;
     }
     Ok(())
 }
 
 /// Puts an edge behind the others, with the link to the next one of its list.
+#[inline(always)]
 fn push_pair(
     pairs: &mut Vec<(u32, u32)>,
     next: &mut Vec<u32>,
@@ -81,6 +87,7 @@ fn push_pair(
 }
 
 /// Puts an edge that is new at the front of the list of its lesser vertex.
+#[inline(always)]
 fn add_listed(
     pairs: &mut Vec<(u32, u32)>,
     first: &mut Vec<u32>,
@@ -105,6 +112,8 @@ fn add_listed(
 }
 
 /// Puts an edge that is in no list into the map, unless it is there.
+#[cold]
+#[inline(never)]
 fn add_crowded(
     pairs: &mut Vec<(u32, u32)>,
     first: &[u32],
@@ -133,6 +142,7 @@ fn add_crowded(
 }
 
 /// Puts an edge behind the others, unless it is one of them, and returns its number.
+#[inline(always)]
 fn add_pair(
     pairs: &mut Vec<(u32, u32)>,
     first: &mut Vec<u32>,
@@ -176,6 +186,7 @@ impl Edges {
 
     /// Puts the edge between two vertices behind the others, unless it is one of them, and returns its
     /// number. Want of memory changes nothing.
+    #[inline(always)]
     pub fn add(&mut self, a: u32, b: u32) -> Result<usize, Memory>
         ensures edges { OnOk result (map edge_of self.new ≡ with_edge (map edge_of self.old) (edge_between a b)) }
         ensures number { IfOk result (λ n. n ≡ position_or_len (is_edge (edge_between a b)) (map edge_of self.old)) }

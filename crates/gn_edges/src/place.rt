@@ -17,6 +17,7 @@ pub(crate) enum Place {
 
 /// Looks for an edge along a list. A link is 0 at the end of a list, and otherwise one more than
 /// the number of an edge.
+#[inline(always)]
 pub(crate) fn find_listed(pairs: &[(u32, u32)], next: &[u32], first: u32, edge: (u32, u32)) -> Place
     requires paired { length next.now ≡ length pairs.now }
     requires links { (k : ℕ) → slice_index next.now k ≤ length pairs.now }

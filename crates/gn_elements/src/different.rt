@@ -1,4 +1,4 @@
-ghost use Rattle.std.specs.Prelude.{◌≡◌, IfOk};
+ghost use Rattle.std.specs.Prelude.{◌≡◌, ◌∷◌, [], IfOk};
 ghost use Rattle.gn_elements.specs.Read.{all_differ};
 
 use gn_memory::Memory;
@@ -7,6 +7,20 @@ use std::collections::BTreeSet;
 
 /// Up to so many vertices are compared with each other.
 const FEW: usize = 16;
+
+#[inline(always)]
+fn three_differ(a: u32, b: u32, c: u32) -> bool
+    ensures { result ≡ all_differ (a ∷ b ∷ c ∷ []) }
+{
+    b != a && c != a && c != b
+}
+
+#[inline(always)]
+fn four_differ(a: u32, b: u32, c: u32, d: u32) -> bool
+    ensures { result ≡ all_differ (a ∷ b ∷ c ∷ d ∷ []) }
+{
+    b != a && three_differ(a, c, d) && three_differ(b, c, d)
+}
 
 fn few_differ(vertices: &[u32]) -> bool
     ensures { result ≡ all_differ vertices.now }
@@ -21,6 +35,8 @@ fn few_differ(vertices: &[u32]) -> bool
     true
 }
 
+#[cold]
+#[inline(never)]
 fn many_differ(alloc: Global, vertices: &[u32]) -> Result<bool, Memory>
     ensures { IfOk result (λ differ. differ ≡ all_differ vertices.now) }
 {
@@ -34,11 +50,14 @@ fn many_differ(alloc: Global, vertices: &[u32]) -> Result<bool, Memory>
 }
 
 /// Whether no vertex stands twice in a row.
+#[inline(always)]
 pub(crate) fn are_different(alloc: Global, vertices: &[u32]) -> Result<bool, Memory>
     ensures { IfOk result (λ differ. differ ≡ all_differ vertices.now) }
 {
-    if vertices.len() <= FEW {
-        return Ok(few_differ(vertices));
+    match vertices {
+        [a, b, c] => Ok(three_differ(*a, *b, *c)),
+        [a, b, c, d] => Ok(four_differ(*a, *b, *c, *d)),
+        _ if vertices.len() <= FEW => Ok(few_differ(vertices)),
+        _ => many_differ(alloc, vertices),
     }
-    many_differ(alloc, vertices)
 }

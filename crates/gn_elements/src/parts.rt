@@ -50,6 +50,7 @@ fn add_edges_along(edges: &mut Edges, row: &[u32]) -> Result<(), Memory>
 
 /// Puts the edges around a face behind the others, each unless it is one of them, and the number of
 /// each behind other numbers.
+#[inline(always)]
 fn add_edges_around(edges: &mut Edges, numbers: &mut Vec<u32>, face: &[u32]) -> Result<(), Memory>
     requires { length (edges_in edges.old) + length face.now < 2 ^ 32 }
     ensures edges { OnOk result (edges_in edges.new ≡ fold with_edge (edges_in edges.old) (edges_around face.now)) }
@@ -84,6 +85,7 @@ impl Parts {
     }
 
     /// Adds a vertex.
+    #[inline(always)]
     pub(crate) fn add_vertex(&mut self, point: V3) -> Result<Result<(), Rule>, Memory>
         requires { fits (growing self.old) ≡ true }
         ensures { IfOk result (Grows (growing self.old) (Ok (vertex point)) (growing self.new)) }
@@ -108,6 +110,7 @@ impl Parts {
     }
 
     /// Adds a face with corners at these vertices.
+    #[inline(always)]
     pub(crate) fn add_face(&mut self, vertices: &[u32]) -> Result<Result<(), Rule>, Memory>
         requires { fits (growing self.old) ≡ true }
         ensures { IfOk result (Grows (growing self.old) (Ok (face vertices.now)) (growing self.new)) }

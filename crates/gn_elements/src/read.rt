@@ -16,6 +16,7 @@ use gn_memory::Memory;
 use std::alloc::Global;
 
 /// Reads the words behind `v`.
+#[inline(always)]
 fn read_vertex(lines: &mut Lines<'_>, parts: &mut Parts) -> Result<Result<(), Rule>, Memory>
     requires { fits (growing parts.old) ≡ true }
     ensures grows { IfOk result (Grows (growing parts.old) (vertex_of (first_words lines.old)) (growing parts.new)) }
@@ -28,6 +29,7 @@ fn read_vertex(lines: &mut Lines<'_>, parts: &mut Parts) -> Result<Result<(), Ru
 }
 
 /// Reads the words behind `f`.
+#[inline(always)]
 fn read_face(
     alloc: Global,
     lines: &mut Lines<'_>,
@@ -86,6 +88,7 @@ fn read_points(
 }
 
 /// Reads the words left of a line.
+#[inline(always)]
 fn read_words(
     alloc: Global,
     lines: &mut Lines<'_>,

@@ -1,4 +1,4 @@
-ghost use Rattle.std.specs.Prelude.{◌≡◌, ◌<◌, ◌-◌, ◌^◌};
+ghost use Rattle.std.specs.Prelude.{◌≡◌, ◌<◌, ◌+◌, ◌-◌, ◌*◌, ◌^◌, min};
 ghost use Rattle.std.specs.Str.Parse.{starts_with_minus, without_leading_sign};
 ghost use Rattle.gn_elements.specs.Digits.{number_capped, behind_digits};
 ghost use Rattle.gn_elements.specs.References.{is_end_or_slash};
@@ -16,6 +16,7 @@ pub(crate) enum Reference {
 }
 
 /// Whether a minus stands first, and the text without its sign.
+#[inline(always)]
 fn split_sign(text: &[u8]) -> (bool, &[u8])
     ensures minus { result.0 ≡ starts_with_minus text.now }
     ensures unsigned { result.1.now ≡ without_leading_sign text.now }
@@ -27,8 +28,24 @@ fn split_sign(text: &[u8]) -> (bool, &[u8])
     }
 }
 
+/// Below this number there is room for one more digit in 32 bits.
+const ROOM: u32 = 429_496_729;
+
+/// The number with one more digit behind it, or the greatest of its type where it is more.
+#[inline(always)]
+fn with_digit(number: u32, digit: u32) -> u32
+    requires { digit < 10 }
+    ensures { result ≡ min (number * 10 + digit) (2 ^ 32 - 1) }
+{
+    if number < ROOM {
+        return number * 10 + digit;
+    }
+    number.saturating_mul(10).saturating_add(digit)
+}
+
 /// The number that the digits at the front write, or the greatest of its type where it is more, and
 /// the text behind them.
+#[inline(always)]
 fn leading_number(text: &[u8]) -> (u32, &[u8])
     ensures number { result.0 ≡ number_capped 0 text.now }
     ensures behind { result.1.now ≡ behind_digits text.now }
@@ -38,13 +55,12 @@ fn leading_number(text: &[u8]) -> (u32, &[u8])
         if !byte.is_ascii_digit() {
             return (number, &text[i..]);
         }
-        number = number
-            .saturating_mul(10)
-            .saturating_add(u32::from(*byte - b'0'));
+        number = with_digit(number, u32::from(*byte - b'0'));
     }
     (number, &text[text.len()..])
 }
 
+#[inline(always)]
 fn is_end_or_slash(text: &[u8]) -> bool
     ensures { result ≡ is_end_or_slash text.now }
 {
@@ -52,6 +68,7 @@ fn is_end_or_slash(text: &[u8]) -> bool
 }
 
 /// What a word names where so many vertices stand above it.
+#[inline(always)]
 #[tactic(auto, using(crate::proofs::Digits::capped_value, crate::proofs::Digits::behind_value))]
 pub(crate) fn read_reference(word: &[u8], count: u32) -> Reference
     requires { count < 2 ^ 32 - 1 }

@@ -69,6 +69,7 @@ fn read_number(lines: &mut Lines<'_>) -> Result<Fx, Rule>
 }
 
 /// The position that the words left of a line begin with.
+#[inline(always)]
 pub(crate) fn read_position(lines: &mut Lines<'_>) -> Result<V3, Rule>
     ensures position { IsPosition (first_words lines.old) result }
     ensures others { other_lines lines.new ≡ other_lines lines.old }

@@ -8,10 +8,10 @@ use Rattle.gn_value.specs.declared.value.Place.{Place}
 use Rattle.gn_value.specs.declared.value.ValueKind.{ValueKind}
 use Rattle.gn_kinds.specs.declared.row.SocketKind.{SocketKind}
 use Rattle.gn_kinds.specs.Names.{kind_named, place_named}
-use Rattle.gn_kinds.specs.Row.{Text, Setting, type_in, op_in, place_in, a_clamp, a_name, a_file, value_of, group_name, zone_items, zone_nodes, zone_output, Input, input_name, KindRow}
+use Rattle.gn_kinds.specs.Row.{Text, Setting, type_in, op_in, place_in, a_clamp, a_name, a_file, value_of, group_name, zone_items, zone_nodes, zone_output, has_input, KindRow}
 use Rattle.gn_kinds.specs.Table.{any_kind, row_of_kind}
 use Rattle.gn_pointers.specs.Pointers.{Step, index, key, IsBadAt, Pointer as At}
-use Rattle.gn_form.specs.Text.{is_id, is_column_name, is_file_name, is_word}
+use Rattle.gn_kinds.specs.Text.{is_id, is_column_name, is_file_name, is_word}
 use Rattle.gn_form.specs.Constant.{constant_as, constant_in, three_numbers}
 
 -- what a value must be
@@ -123,9 +123,6 @@ abbrev pub is_input : Data → Bool
 is_input (array ds) = are_links ds || is_some (three_numbers ds)
 is_input (object ms) = has_keys a_link None (object ms)
 is_input d = is_some (constant_in d)
-
-abbrev pub has_input : List Input → Text → Bool
-has_input inputs k = list_any (λ x. bytes_eq (input_name x) k) inputs
 
 abbrev pub fits : Form → Data → Bool
 fits the_format d = option_map_or (λ n. n == 1) (option_and_then as_u64 (as_number d)) false

@@ -1,4 +1,3 @@
-pub mod Text
 pub mod Constant
 pub mod Form
 pub mod Walk

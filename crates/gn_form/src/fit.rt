@@ -1,8 +1,8 @@
 ghost use Rattle.std.specs.Prelude.{◌≡◌, option_map, map};
 ghost use Rattle.gn_kinds.specs.Seen.{row_of, input_of};
-ghost use Rattle.gn_kinds.specs.Row.{input_name as row_input_name};
+ghost use Rattle.gn_kinds.specs.Row.{input_name as row_input_name, has_input as row_has_input};
+ghost use Rattle.gn_kinds.specs.Text.{is_id};
 ghost use Rattle.gn_form.specs.Form as is;
-ghost use Rattle.gn_form.specs.Text.{is_id};
 ghost use Rattle.gn_form.specs.Seen.{form_of};
 ghost use Rattle.serde_json.specs.View.{view, items_view, members_view};
 
@@ -62,7 +62,7 @@ fn input_name(input: InputRow) -> &'static str
 }
 
 fn has_input(inputs: &'static [InputRow], key: &str) -> bool
-    ensures { result ≡ is.has_input (map input_of inputs.now) key.now }
+    ensures { result ≡ row_has_input (map input_of inputs.now) key.now }
 {
     for input in inputs {
         if input_name(*input) == key {
@@ -84,7 +84,7 @@ fn are_ids(members: &Map<String, Value>) -> bool
 }
 
 fn are_inputs_of(inputs: &'static [InputRow], members: &Map<String, Value>) -> bool
-    ensures { result ≡ is.all_keys (is.has_input (map input_of inputs.now)) (members_view members.now.entries) }
+    ensures { result ≡ is.all_keys (row_has_input (map input_of inputs.now)) (members_view members.now.entries) }
 {
     for (key, _member) in members.iter() {
         if !has_input(inputs, key) {

@@ -1,6 +1,6 @@
 ghost use Rattle.std.specs.Prelude.{◌≡◌, map};
 ghost use Rattle.std.specs.List.{list_all};
-ghost use Rattle.gn_form.specs.Text as is;
+ghost use Rattle.gn_kinds.specs.Text as is;
 
 fn is_id_byte(byte: u8) -> bool
     ensures { result ≡ is.is_id_byte byte }

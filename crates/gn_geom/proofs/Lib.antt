@@ -1,3 +1,4 @@
 pub mod Marks
 pub mod Joins
 pub mod FaceLemmas
+mod Examples

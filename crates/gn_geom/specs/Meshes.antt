@@ -3,7 +3,7 @@ use Rattle.std.specs.Prelude.{◌≡◌, ℕ, ◌<◌, ◌==◌, ◌^◌, Bool, 
 use Rattle.std.specs.List.{list_any}
 use Rattle.gn_value.specs.declared.vector.V3.{V3}
 use Rattle.gn_shared.specs.Arrays.{ArrayView}
-use Rattle.gn_plain.specs.Geometry as plain
+use Rattle.gn_plain.specs.Geometry as geometry
 use Rattle.gn_plain.specs.Topology.{Topology, IsValid, IsNumbered, shape_of}
 
 -- the arrays of a mesh, each with its handle: where the vertices are, the edges, where the corners of each face begin, the vertex and the edge of each corner, and for each edge whether no corner has it
@@ -24,7 +24,7 @@ abbrev pub topology_of : MeshArrays → Topology
 topology_of m = topology m.points.items m.edges.items m.faces.items m.corner_points.items m.corner_edges.items
 
 -- the plain shape, without the handles
-abbrev pub plain_of : MeshArrays → plain.Shape
+abbrev pub plain_of : MeshArrays → geometry.Shape
 plain_of m = shape_of m.points.items (topology_of m)
 
 -- no corner has the edge of this number

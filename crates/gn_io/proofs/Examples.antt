@@ -2,8 +2,8 @@
 use Rattle.std.specs.Prelude.{◌≡◌, ◌-◌, ◌^◌, [], ◌∷◌, bytes_eq, Some, None, if◌then◌else◌, refl}
 use Rattle.std.proofs.Common.{arith}
 use Rattle.gn_io.specs.Files.{whole, absent, too_long, file_answer, gained}
-use Rattle.gn_io.specs.MemShelf as shelf
-use Rattle.gn_io.specs.MemSink as sink
+use Rattle.gn_io.specs.MemShelf as mem_shelf
+use Rattle.gn_io.specs.MemSink as mem_sink
 use Rattle.gn_io.specs.declared.shelf.Fetched.TheVariants as fetched
 use Rattle.gn_io.specs.declared.sink.Put.TheVariants as put
 use Rattle.gn_io.specs.Outside.{Files, Rose, with_name, with_bytes}
@@ -40,7 +40,7 @@ count_rises : Rose 4 5
 count_rises = omega arith
 
 -- a shelf of one file whose second call fails, whose second and third find nothing, and which was asked once
-abbrev asked_once : shelf.StoredFiles
+abbrev asked_once : mem_shelf.StoredFiles
 asked_once = record {
   files = (97 ∷ [], 1 ∷ 2 ∷ 3 ∷ []) ∷ [];
   fail = 2 ∷ [];
@@ -49,30 +49,30 @@ asked_once = record {
 }
 
 -- and which was asked twice more
-abbrev asked_thrice : shelf.StoredFiles
-asked_thrice = shelf.with_call (shelf.with_call asked_once (97 ∷ []) fetched.Failed) (98 ∷ []) fetched.Absent
+abbrev asked_thrice : mem_shelf.StoredFiles
+asked_thrice = mem_shelf.with_call (mem_shelf.with_call asked_once (97 ∷ []) fetched.Failed) (98 ∷ []) fetched.Absent
 
-fails_before_it_misses : shelf.answer_of asked_once (97 ∷ []) 3 ≡ fetched.Failed
+fails_before_it_misses : mem_shelf.answer_of asked_once (97 ∷ []) 3 ≡ fetched.Failed
 fails_before_it_misses = refl
 
-too_long_past_the_limit : shelf.answer_of asked_thrice (97 ∷ []) 2 ≡ fetched.TooLong 3
+too_long_past_the_limit : mem_shelf.answer_of asked_thrice (97 ∷ []) 2 ≡ fetched.TooLong 3
 too_long_past_the_limit = refl
 
-one_name_missed : shelf.missed_of asked_thrice ≡ (98 ∷ []) ∷ []
+one_name_missed : mem_shelf.missed_of asked_thrice ≡ (98 ∷ []) ∷ []
 one_name_missed = refl
 
-one_fault_counted : shelf.faults_of asked_thrice ≡ 1
+one_fault_counted : mem_shelf.faults_of asked_thrice ≡ 1
 one_fault_counted = refl
 
 -- a sink with room for three bytes, whose first call takes at most one
-abbrev small : sink.StoredBytes
+abbrev small : mem_sink.StoredBytes
 small = record { fail = (1, 1) ∷ (1, 2) ∷ []; room = 3; held = []; calls = 0; faults = 0 }
 
-first_entry_counts : sink.put_answer small (5 ∷ 6 ∷ []) ≡ put.Failed 1
+first_entry_counts : mem_sink.put_answer small (5 ∷ 6 ∷ []) ≡ put.Failed 1
 first_entry_counts = refl
 
-room_is_left : sink.put_answer (sink.after_put small (5 ∷ 6 ∷ [])) (7 ∷ 8 ∷ []) ≡ put.All
+room_is_left : mem_sink.put_answer (mem_sink.after_put small (5 ∷ 6 ∷ [])) (7 ∷ 8 ∷ []) ≡ put.All
 room_is_left = refl
 
-room_is_missing : sink.put_answer (sink.after_put small (5 ∷ 6 ∷ [])) (7 ∷ 8 ∷ 9 ∷ []) ≡ put.Failed 2
+room_is_missing : mem_sink.put_answer (mem_sink.after_put small (5 ∷ 6 ∷ [])) (7 ∷ 8 ∷ 9 ∷ []) ≡ put.Failed 2
 room_is_missing = refl

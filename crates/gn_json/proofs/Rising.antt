@@ -1,5 +1,5 @@
 -- Where the keys of each object of a value rise, so do the names in the tree that the value is.
-use Rattle.std.proofs.Common.{◌≡◌, ℕ, Bool, true, false, List, [], ◌∷◌, Option, Some, None, Result, Ok, Err, IfOk, All, map, codes, bytes_eq, option_and_then, subst, sym, ◌∙◌, if◌then◌else◌}
+use Rattle.std.proofs.Common.{◌≡◌, ℕ, Bool, true, false, List, [], ◌∷◌, Option, Some, None, All, map, codes, bytes_eq, option_and_then, subst, sym, ◌∙◌, if◌then◌else◌}
 use Rattle.std.specs.Option.{option_map_or}
 use Rattle.std.specs.List.{list_any}
 use Rattle.std.specs.declared.cmp.Ordering.{Ordering}
@@ -14,14 +14,12 @@ use Rattle.serde_json.specs.Find.{get, get_member, as_array, as_object}
 use Rattle.gn_kinds.specs.Row as row
 use Rattle.gn_kinds.specs.Row.{Text}
 use Rattle.gn_form.specs.Order.{Precedes, InOrder, ItemsInOrder, MembersInOrder}
-use Rattle.gn_tree.specs.Trees.{Node, Settings, Setting}
-use Rattle.gn_tree.specs.Seen.{tree_of, nodes_of}
+use Rattle.gn_tree.specs.Trees.{Node, Settings, Setting, Tree}
+use Rattle.gn_tree.specs.Seen.{nodes_of}
 use Rattle.gn_tree.specs.Rising.{NamesRise, NamesRiseAt, NamesRiseInSettings, NamesRiseInNodes, NamesRiseInGroup, NamesRiseInTree}
-use Rattle.gn_tree.specs.declared.tree.Tree.{Tree}
-use Rattle.gn_json.specs.Answers.{FirstMisfit, Answers}
+use Rattle.gn_json.specs.Answers.{FirstMisfit}
 use Rattle.gn_json.specs.Exact.{is_zone, tree_from}
 use Rattle.gn_json.specs.Typed.{inputs_in, inputs_at, setting_in, then_setting, settings_before, zone_if, settings_in, settings_of_kind, node_in, settings_among, settings_under, nodes_among, nodes_under, nodes_in, nodes_at, group_in, groups_in, tree_in}
-use Rattle.gn_json.specs.declared.fault.JsonFault.{JsonFault}
 use Rattle.gn_json.proofs.Clean.{same_some}
 use Rattle.gn_json.proofs.Whole.{tree_is_whole}
 use Rattle.gn_json.proofs.Top.{json_in_order}
@@ -171,10 +169,9 @@ rise_in_tree d h = (rise_in_groups_found (get (codes "groups") d) (get_in_order 
 
 -- ---- what is read of bytes
 
--- the tree that was read is the one that is made of the value
-made_of : (bytes : List ℕ) (t : Tree) (d : Data) → FirstMisfit bytes d None → tree_from d ≡ Some (tree_of t) → tree_in d ≡ tree_of t
-made_of bytes t d h e = same_some (tree_in d) (tree_of t) (sym (tree_is_whole d (json_in_order bytes d h.0) h.1) ∙ e)
+-- the tree that the bytes are is the one that is made of the value
+pub made_of : (bytes : List ℕ) (d : Data) (t : Tree) → FirstMisfit bytes d None → tree_from d ≡ Some t → tree_in d ≡ t
+made_of bytes d t h e = same_some (tree_in d) t (sym (tree_is_whole d (json_in_order bytes d h.0) h.1) ∙ e)
 
-pub read_rises : (bytes : List ℕ) (r : Result Tree JsonFault) → Answers bytes r → IfOk r (λ t. NamesRiseInTree (tree_of t))
-read_rises bytes (Ok t) h = subst NamesRiseInTree (made_of bytes t h.0 h.1 h.2) (rise_in_tree h.0 (json_in_order bytes h.0 h.1.0))
-read_rises bytes (Err x) h = tt
+pub names_rise_in : (bytes : List ℕ) (d : Data) (t : Tree) → FirstMisfit bytes d None → tree_from d ≡ Some t → NamesRiseInTree t
+names_rise_in bytes d t h e = subst NamesRiseInTree (made_of bytes d t h e) (rise_in_tree d (json_in_order bytes d h.0))

@@ -1,13 +1,14 @@
--- In the settings of each kind's row no key stands twice, and those of a zone stand together.
-use Rattle.std.proofs.Common.{◌≡◌, Bool, true, false, not, ◌&&◌, ◌||◌, List, [], ◌∷◌, Option, Some, None, map, bytes_eq, cond, refl, sym, ap, ◌∙◌, subst, true≢false}
-use Rattle.std.specs.Option.{option_or}
+-- In the settings of each kind's row no key stands twice, and those of a zone stand together, behind the others.
+use Rattle.std.proofs.Common.{◌≡◌, Bool, true, false, not, ◌&&◌, ◌||◌, List, [], ◌∷◌, Some, map, bytes_eq, cond, refl, sym, ap, subst, true≢false}
 use Rattle.std.specs.List.{list_all, list_any}
 use Rattle.std.proofs.lemmas.Slice.Eq.{bytes_eq-Decides}
 use Rattle.gn_kinds.specs.Row.{Text, Setting, zone_items, zone_nodes, zone_output, KindRow}
-use Rattle.gn_kinds.specs.Table.{table, values, functions, elsewhere, attributes, geometry_kinds, instance_kinds, groups, row_in, row_in_sections, row_of_kind}
+use Rattle.gn_kinds.specs.Table.{table, values, functions, elsewhere, attributes, geometry_kinds, instance_kinds, groups, row_of_kind}
+use Rattle.gn_kinds.proofs.Rows.{row_passes}
 use Rattle.gn_form.specs.Form.{Key, named, setting_key}
+use Rattle.gn_tree.specs.Form.{stands_with_items}
 use Rattle.gn_json.specs.Exact.{is_zone}
-use Rattle.gn_json.proofs.Clean.{both_left, both_right, same_some}
+use Rattle.gn_json.proofs.Clean.{both_left, both_right}
 
 -- ---- the test
 
@@ -26,8 +27,17 @@ abbrev is_output : Setting → Bool
 is_output zone_output = true
 is_output _ = false
 
+-- no setting stands behind the items of a zone but its nodes and what it gives out
+abbrev pub zone_is_last : List Setting → Bool
+zone_is_last [] = true
+zone_is_last (zone_items ∷ ss) = list_all stands_with_items ss
+zone_is_last (s ∷ ss) = zone_is_last ss
+
+abbrev has_whole_zone : List Setting → Bool
+has_whole_zone ss = not (list_any is_zone ss) || list_any is_nodes ss && list_any is_output ss
+
 abbrev are_whole : List Setting → Bool
-are_whole ss = are_apart ss && (not (list_any is_zone ss) || list_any is_nodes ss && list_any is_output ss)
+are_whole ss = are_apart ss && has_whole_zone ss && zone_is_last ss
 
 -- ---- what follows of it
 
@@ -39,10 +49,11 @@ abbrev pub NamesEach : List Key → List Setting → Type 0
 NamesEach keys [] = Unit {0}
 NamesEach keys (s ∷ ss) = Names keys s × NamesEach keys ss
 
--- each setting is found by its key, and a zone has its nodes and what it gives out
+-- each setting is found by its key, a zone has its nodes and what it gives out, and it stands last
 abbrev pub AreWhole : List Setting → Type 0
 AreWhole ss = NamesEach (map setting_key ss) ss
     × (list_any is_zone ss ≡ true → Names (map setting_key ss) zone_items × Names (map setting_key ss) zone_nodes × Names (map setting_key ss) zone_output)
+    × (zone_is_last ss ≡ true)
 
 named_later : (s t : Setting) (keys : List Key) (b : Bool) → has_name (setting_key t).name s ≡ b → not b ≡ true → Names keys t → cond b (Some (setting_key s)) (named keys (setting_key t).name) ≡ Some (setting_key t)
 named_later s t keys true e n h = absurd (true≢false (sym n))
@@ -92,47 +103,25 @@ implied false b e h = absurd (true≢false (sym h))
 
 whole : (ss : List Setting) → are_whole ss ≡ true → AreWhole ss
 whole ss e =
-    let zone = not (list_any is_zone ss) || list_any is_nodes ss && list_any is_output ss in
-    let each = names_each ss (both_left (are_apart ss) zone e) in
+    let first = both_left (are_apart ss && has_whole_zone ss) (zone_is_last ss) e in
+    let each = names_each ss (both_left (are_apart ss) (has_whole_zone ss) first) in
     let keys = map setting_key ss in
-    let parts : list_any is_zone ss ≡ true → (list_any is_nodes ss && list_any is_output ss) ≡ true = implied (list_any is_zone ss) (list_any is_nodes ss && list_any is_output ss) (both_right (are_apart ss) zone e) in (
+    let parts : list_any is_zone ss ≡ true → (list_any is_nodes ss && list_any is_output ss) ≡ true =
+    implied (list_any is_zone ss) (list_any is_nodes ss && list_any is_output ss) (both_right (are_apart ss) (has_whole_zone ss) first) in (
       each,
       λ h. (
         named_where keys zone_items is_zone only_items ss each h,
         named_where keys zone_nodes is_nodes only_nodes ss each (both_left (list_any is_nodes ss) (list_any is_output ss) (parts h)),
         named_where keys zone_output is_output only_output ss each (both_right (list_any is_nodes ss) (list_any is_output ss) (parts h)),
       ),
+      both_right (are_apart ss && has_whole_zone ss) (zone_is_last ss) e,
     )
 
 -- ---- the table
 
-abbrev are_rows_whole : List KindRow → Bool
-are_rows_whole = list_all (λ row. are_whole row.settings)
-
-table_whole : list_all are_rows_whole table ≡ true
+table_whole : list_all (list_all (λ row. are_whole row.settings)) table ≡ true
 unfolding table values functions elsewhere attributes geometry_kinds instance_kinds groups
 table_whole = refl
 
-found_if : (b : Bool) (x row : KindRow) (rest : Option KindRow) → are_whole x.settings ≡ true → (rest ≡ Some row → are_whole row.settings ≡ true) → cond b (Some x) rest ≡ Some row → are_whole row.settings ≡ true
-found_if true x row rest h more e = ap (λ r. are_whole r.settings) (sym (same_some x row e)) ∙ h
-found_if false x row rest h more e = more e
-
-found_in : (rows : List KindRow) (kind : Text) (row : KindRow) → are_rows_whole rows ≡ true → row_in rows kind ≡ Some row → are_whole row.settings ≡ true
-found_in [] kind row h e = absurd (cc)
-found_in (x ∷ rows) kind row h e =
-    found_if (bytes_eq x.kind kind) x row (row_in rows kind) (both_left (are_whole x.settings) (are_rows_whole rows) h) (λ m. found_in rows kind row (both_right (are_whole x.settings) (are_rows_whole rows) h) m) e
-
-found_or : (a b : Option KindRow) (row : KindRow) → (a ≡ Some row → are_whole row.settings ≡ true) → (b ≡ Some row → are_whole row.settings ≡ true) → option_or a b ≡ Some row → are_whole row.settings ≡ true
-found_or None b row f g e = g e
-found_or (Some x) b row f g e = f e
-
-found_in_sections : (sections : List (List KindRow)) (kind : Text) (row : KindRow) → list_all are_rows_whole sections ≡ true → row_in_sections sections kind ≡ Some row → are_whole row.settings ≡ true
-found_in_sections [] kind row h e = absurd (cc)
-found_in_sections (rows ∷ more) kind row h e =
-    found_or (row_in rows kind) (row_in_sections more kind) row
-    (λ m. found_in rows kind row (both_left (are_rows_whole rows) (list_all are_rows_whole more) h) m)
-    (λ m. found_in_sections more kind row (both_right (are_rows_whole rows) (list_all are_rows_whole more) h) m) e
-
 pub row_whole : (kind : Text) (row : KindRow) → row_of_kind kind ≡ Some row → AreWhole row.settings
-unfolding row_of_kind
-row_whole kind row e = whole row.settings (found_in_sections table kind row table_whole e)
+row_whole kind row e = whole row.settings (row_passes (λ row. are_whole row.settings) table_whole kind row e).1

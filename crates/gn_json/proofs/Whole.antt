@@ -16,7 +16,7 @@ use Rattle.gn_kinds.specs.Row.{Text, KindRow}
 use Rattle.gn_kinds.specs.Table.{any_kind, row_of_kind}
 use Rattle.gn_pointers.specs.Pointers.{index, key, IsFirst}
 use Rattle.gn_form.specs.Constant.{constant_as, constant_in, three_numbers}
-use Rattle.gn_form.specs.Text.{is_id, is_column_name, is_file_name, is_word}
+use Rattle.gn_kinds.specs.Text.{is_id, is_column_name, is_file_name, is_word}
 use Rattle.gn_form.specs.Form as form
 use Rattle.gn_form.specs.Form.{Form, Key, needs, may_have, named, fits, is_text, is_known, are_there, are_links, keys_of, node_keys, member_form, setting_key, row_in_node, BreaksForm}
 use Rattle.gn_form.specs.Order.{InOrder}
@@ -52,7 +52,7 @@ good_text_of : (good : Text → Bool) (found : Option Data) → is_some found �
 good_text_of good None t f = absurd (true≢false (sym t))
 good_text_of good (Some d) t f = good_text good (as_str d) (f d refl)
 
-good_under : (good : Text → Bool) (k : Text) (d : Data) → IsThere k d → ((e : Data) → get k d ≡ Some e → is_text good e ≡ true) → (text_under k d ≡ Some (text_at k d)) × (good (text_at k d) ≡ true)
+pub good_under : (good : Text → Bool) (k : Text) (d : Data) → IsThere k d → ((e : Data) → get k d ≡ Some e → is_text good e ≡ true) → (text_under k d ≡ Some (text_at k d)) × (good (text_at k d) ≡ true)
 good_under good k d t f = good_text_of good (get k d) t f
 
 id_is : (k : Text) (d : Data) → IsThere k d → IsCleanUnder form.an_id k d → text_under k d ≡ Some (text_at k d)
@@ -224,13 +224,13 @@ settings_are keys ms rest (s ∷ ss) h n =
     (setting_is s d before (λ needed. there_in keys ms (setting_key s).name (setting_key s) h n.0 needed) (clean_under keys ms (setting_key s).name (setting_key s) h n.0))
 
 -- the key is found as that of the setting
-abbrev Names : List Key → row.Setting → Type 0
+abbrev pub Names : List Key → row.Setting → Type 0
 Names keys s = named keys (setting_key s).name ≡ Some (setting_key s)
 
-there_as : (keys : List Key) (ms : Members) (s : row.Setting) → HasKeys keys ms → Names keys s → is_needed s ≡ true → IsThere (setting_key s).name (object ms)
+pub there_as : (keys : List Key) (ms : Members) (s : row.Setting) → HasKeys keys ms → Names keys s → is_needed s ≡ true → IsThere (setting_key s).name (object ms)
 there_as keys ms s h n needed = there_in keys ms (setting_key s).name (setting_key s) h n needed
 
-clean_as : (keys : List Key) (ms : Members) (s : row.Setting) → HasKeys keys ms → Names keys s → IsCleanUnder (setting_key s).form (setting_key s).name (object ms)
+pub clean_as : (keys : List Key) (ms : Members) (s : row.Setting) → HasKeys keys ms → Names keys s → IsCleanUnder (setting_key s).form (setting_key s).name (object ms)
 clean_as keys ms s h n = clean_under keys ms (setting_key s).name (setting_key s) h n
 
 zone_is : (keys : List Key) (ms : Members) (b : Bool) → HasKeys keys ms → (b ≡ true → Names keys row.zone_items × Names keys row.zone_nodes × Names keys row.zone_output)
@@ -258,7 +258,7 @@ none_needed false t = refl
 
 -- ---- nodes
 
-no_row : (r : Option KindRow) → is_some r ≡ true → r ≡ None → ⊥
+pub no_row : (r : Option KindRow) → is_some r ≡ true → r ≡ None → ⊥
 no_row None s e = true≢false (sym s)
 no_row (Some row) s e = absurd (cc)
 
@@ -266,7 +266,7 @@ node_are : (id kind : Option Text) (settings : Option Settings) (inputs : Option
     → exact.a_node id kind settings inputs ≡ Some (node i k s xs)
 node_are id kind settings inputs i k s xs a b c d = rw (a, b, c, d)
 
-kind_in_node : (keys : List Key) (ms : Members) → HasKeys keys ms → named keys (codes "kind") ≡ Some (needs (codes "kind") form.a_node_kind)
+pub kind_in_node : (keys : List Key) (ms : Members) → HasKeys keys ms → named keys (codes "kind") ≡ Some (needs (codes "kind") form.a_node_kind)
     → (text_under (codes "kind") (object ms) ≡ Some (text_at (codes "kind") (object ms))) × (is_some (row_of_kind (text_at (codes "kind") (object ms))) ≡ true)
 kind_in_node keys ms h n =
     let it = needs (codes "kind") form.a_node_kind in
@@ -292,11 +292,11 @@ node_with ms (Some row) e h f =
     (id_is (codes "id") d (there_in keys ms (codes "id") id h refl refl) (clean_under keys ms (codes "id") id h refl)) kind.0 settings
     (inputs_of_under row (codes "in") d (clean_under keys ms (codes "in") inputs h refl))
 
-set_needed : (row : KindRow) (ms : Members) → HasKeys (node_keys (Some row)) ms → list_any is_needed row.settings ≡ true → IsThere (codes "set") (object ms)
+pub set_needed : (row : KindRow) (ms : Members) → HasKeys (node_keys (Some row)) ms → list_any is_needed row.settings ≡ true → IsThere (codes "set") (object ms)
 set_needed row ms h n =
     there_in (node_keys (Some row)) ms (codes "set") (record { name = codes "set"; needed = list_any is_needed row.settings; form = form.settings_of row }) h refl n
 
-abbrev forms_of : List Key → Text → Option Form
+abbrev pub forms_of : List Key → Text → Option Form
 forms_of keys k = option_map (λ key. key.form) (named keys k)
 
 mutual

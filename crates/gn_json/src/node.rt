@@ -2,7 +2,7 @@ ghost use Rattle.std.specs.Prelude.{◌≡◌, IfOk, map};
 ghost use Rattle.serde_json.specs.View.{view, items_view, members_view};
 ghost use Rattle.gn_kinds.specs.Seen.{setting_of};
 ghost use Rattle.gn_tree.specs.Seen as seen;
-ghost use Rattle.gn_json.specs.Typed as spec;
+ghost use Rattle.gn_json.specs.Typed as typed;
 
 use crate::part::{inputs_at, string_at};
 use crate::setting::settings_in;
@@ -14,7 +14,7 @@ use std::alloc::Global;
 
 /// The forms of the settings of a node's kind.
 fn forms_of_kind(value: &Value) -> &'static [SettingForm]
-    ensures { map setting_of result.now ≡ spec.settings_of_kind (view value.now) }
+    ensures { map setting_of result.now ≡ typed.settings_of_kind (view value.now) }
 {
     let Some(kind) = value.get("kind") else {
         return &[];
@@ -30,7 +30,7 @@ fn forms_of_kind(value: &Value) -> &'static [SettingForm]
 
 #[cycle(node)]
 fn node_in(alloc: Global, value: &Value) -> Result<Node, Memory>
-    ensures { IfOk result (λ node. node ≡ spec.node_in (view value.now)) }
+    ensures { IfOk result (λ node. node ≡ typed.node_in (view value.now)) }
 {
     let settings = match value {
         Value::Object(members) => settings_among(alloc, forms_of_kind(value), members)?,
@@ -54,7 +54,7 @@ fn settings_among(
     members: &Map<String, Value>,
 ) -> Result<Vec<Setting>, Memory>
     ensures { IfOk result (λ settings.
-        seen.settings_of settings.items ≡ spec.settings_among (map setting_of forms.now) (members_view members.now.entries)) }
+        seen.settings_of settings.items ≡ typed.settings_among (map setting_of forms.now) (members_view members.now.entries)) }
 {
     for (key, member) in members.iter() {
         if "set" == key.as_str() {
@@ -71,7 +71,7 @@ fn settings_under(
     value: &Value,
 ) -> Result<Vec<Setting>, Memory>
     ensures { IfOk result (λ settings.
-        seen.settings_of settings.items ≡ spec.settings_under (map setting_of forms.now) (view value.now)) }
+        seen.settings_of settings.items ≡ typed.settings_under (map setting_of forms.now) (view value.now)) }
 {
     match value {
         Value::Object(members) => {
@@ -84,7 +84,7 @@ fn settings_under(
 
 #[cycle(node)]
 pub(crate) fn nodes_among(alloc: Global, members: &Map<String, Value>) -> Result<Vec<Node>, Memory>
-    ensures { IfOk result (λ nodes. nodes.items ≡ spec.nodes_among (members_view members.now.entries)) }
+    ensures { IfOk result (λ nodes. nodes.items ≡ typed.nodes_among (members_view members.now.entries)) }
 {
     for (key, member) in members.iter() {
         if "nodes" == key.as_str() {
@@ -96,7 +96,7 @@ pub(crate) fn nodes_among(alloc: Global, members: &Map<String, Value>) -> Result
 
 #[cycle(node)]
 fn nodes_under(alloc: Global, value: &Value) -> Result<Vec<Node>, Memory>
-    ensures { IfOk result (λ nodes. nodes.items ≡ spec.nodes_under (view value.now)) }
+    ensures { IfOk result (λ nodes. nodes.items ≡ typed.nodes_under (view value.now)) }
 {
     match value {
         Value::Array(items) => nodes_in(alloc, items),
@@ -106,7 +106,7 @@ fn nodes_under(alloc: Global, value: &Value) -> Result<Vec<Node>, Memory>
 
 #[cycle(node)]
 fn nodes_in(alloc: Global, items: &Vec<Value>) -> Result<Vec<Node>, Memory>
-    ensures { IfOk result (λ nodes. nodes.items ≡ spec.nodes_in (items_view items.now.items)) }
+    ensures { IfOk result (λ nodes. nodes.items ≡ typed.nodes_in (items_view items.now.items)) }
 {
     let mut nodes = Vec::with_capacity(alloc, items.len())?;
     for item in items {

@@ -3,7 +3,7 @@ ghost use Rattle.serde_json.specs.View.{view, items_view, members_view};
 ghost use Rattle.serde_json.specs.Data.{array};
 ghost use Rattle.gn_form.specs.Constant as form;
 ghost use Rattle.gn_tree.specs.Seen as seen;
-ghost use Rattle.gn_json.specs.Typed as spec;
+ghost use Rattle.gn_json.specs.Typed as typed;
 
 use gn_form::{are_links, constant_in};
 use gn_kinds::{SocketKind, find_kind, socket_kinds};
@@ -14,7 +14,7 @@ use std::alloc::Global;
 
 /// The text under a key, which a value of its form has.
 pub(crate) fn text_at<'a>(value: &'a Value, key: &str) -> &'a str
-    ensures { result.now ≡ spec.text_at key.now (view value.now) }
+    ensures { result.now ≡ typed.text_at key.now (view value.now) }
 {
     match value.get(key) {
         Some(member) => member.as_str().unwrap_or(""),
@@ -23,13 +23,13 @@ pub(crate) fn text_at<'a>(value: &'a Value, key: &str) -> &'a str
 }
 
 pub(crate) fn string_at(alloc: Global, value: &Value, key: &str) -> Result<String, Memory>
-    ensures { IfOk result (λ text. string_bytes text ≡ spec.text_at key.now (view value.now)) }
+    ensures { IfOk result (λ text. string_bytes text ≡ typed.text_at key.now (view value.now)) }
 {
     Ok(String::from_str(alloc, text_at(value, key))?)
 }
 
 fn link_in(alloc: Global, value: &Value) -> Result<TreeLink, Memory>
-    ensures { IfOk result (λ link. seen.link_of link ≡ spec.link_in (view value.now)) }
+    ensures { IfOk result (λ link. seen.link_of link ≡ typed.link_in (view value.now)) }
 {
     let from = string_at(alloc, value, "from")?;
     let socket = string_at(alloc, value, "socket")?;
@@ -37,7 +37,7 @@ fn link_in(alloc: Global, value: &Value) -> Result<TreeLink, Memory>
 }
 
 fn links_in(alloc: Global, items: &[Value]) -> Result<Vec<TreeLink>, Memory>
-    ensures { IfOk result (λ links. map seen.link_of links.items ≡ spec.links_in (items_view items.now)) }
+    ensures { IfOk result (λ links. map seen.link_of links.items ≡ typed.links_in (items_view items.now)) }
 {
     let mut links = Vec::with_capacity(alloc, items.len())?;
     for item in items {
@@ -48,14 +48,14 @@ fn links_in(alloc: Global, items: &[Value]) -> Result<Vec<TreeLink>, Memory>
 
 /// A constant, which a value of its form is.
 fn constant_or_false(value: &Value) -> gn_value::Value
-    ensures { result ≡ spec.constant_or_false (form.constant_in (view value.now)) }
+    ensures { result ≡ typed.constant_or_false (form.constant_in (view value.now)) }
 {
     constant_in(value).unwrap_or(gn_value::Value::Truth(false))
 }
 
 fn links_or_vector(alloc: Global, value: &Value, items: &[Value]) -> Result<TreeInput, Memory>
     requires { view value.now ≡ array (items_view items.now) }
-    ensures { IfOk result (λ input. seen.input_of input ≡ spec.input_in (view value.now)) }
+    ensures { IfOk result (λ input. seen.input_of input ≡ typed.input_in (view value.now)) }
 {
     if are_links(items) {
         let links = links_in(alloc, items)?;
@@ -68,7 +68,7 @@ fn links_or_vector(alloc: Global, value: &Value, items: &[Value]) -> Result<Tree
 
 /// What stands at an input.
 pub(crate) fn input_in(alloc: Global, value: &Value) -> Result<TreeInput, Memory>
-    ensures { IfOk result (λ input. seen.input_of input ≡ spec.input_in (view value.now)) }
+    ensures { IfOk result (λ input. seen.input_of input ≡ typed.input_in (view value.now)) }
 {
     match value {
         Value::Array(items) => links_or_vector(alloc, value, items),
@@ -95,7 +95,7 @@ fn inputs_in(
     alloc: Global,
     members: &Map<String, Value>,
 ) -> Result<Vec<(String, TreeInput)>, Memory>
-    ensures { IfOk result (λ inputs. map seen.named_of inputs.items ≡ spec.inputs_in (members_view members.now.entries)) }
+    ensures { IfOk result (λ inputs. map seen.named_of inputs.items ≡ typed.inputs_in (members_view members.now.entries)) }
 {
     let mut inputs = Vec::new(alloc);
     for (key, member) in members.iter() {
@@ -112,7 +112,7 @@ pub(crate) fn inputs_at(
     value: &Value,
     key: &str,
 ) -> Result<Vec<(String, TreeInput)>, Memory>
-    ensures { IfOk result (λ inputs. map seen.named_of inputs.items ≡ spec.inputs_at key.now (view value.now)) }
+    ensures { IfOk result (λ inputs. map seen.named_of inputs.items ≡ typed.inputs_at key.now (view value.now)) }
 {
     let Some(inputs) = value.get(key) else {
         return Ok(Vec::new(alloc));
@@ -125,13 +125,13 @@ pub(crate) fn inputs_at(
 
 /// The kind that is named under a key.
 pub(crate) fn kind_at(kinds: &'static [SocketKind], value: &Value, key: &str) -> SocketKind
-    ensures { result ≡ spec.kind_at kinds.now key.now (view value.now) }
+    ensures { result ≡ typed.kind_at kinds.now key.now (view value.now) }
 {
     find_kind(kinds, text_at(value, key)).unwrap_or(SocketKind::Truth)
 }
 
 fn socket_in(alloc: Global, value: &Value) -> Result<Socket, Memory>
-    ensures { IfOk result (λ socket. seen.socket_of socket ≡ spec.socket_in (view value.now)) }
+    ensures { IfOk result (λ socket. seen.socket_of socket ≡ typed.socket_in (view value.now)) }
 {
     let name = string_at(alloc, value, "name")?;
     Ok(Socket {
@@ -141,7 +141,7 @@ fn socket_in(alloc: Global, value: &Value) -> Result<Socket, Memory>
 }
 
 fn sockets_in(alloc: Global, items: &[Value]) -> Result<Vec<Socket>, Memory>
-    ensures { IfOk result (λ sockets. map seen.socket_of sockets.items ≡ spec.sockets_in (items_view items.now)) }
+    ensures { IfOk result (λ sockets. map seen.socket_of sockets.items ≡ typed.sockets_in (items_view items.now)) }
 {
     let mut sockets = Vec::with_capacity(alloc, items.len())?;
     for item in items {
@@ -152,7 +152,7 @@ fn sockets_in(alloc: Global, items: &[Value]) -> Result<Vec<Socket>, Memory>
 
 /// The sockets that are declared under a key.
 pub(crate) fn sockets_at(alloc: Global, value: &Value, key: &str) -> Result<Vec<Socket>, Memory>
-    ensures { IfOk result (λ sockets. map seen.socket_of sockets.items ≡ spec.sockets_at key.now (view value.now)) }
+    ensures { IfOk result (λ sockets. map seen.socket_of sockets.items ≡ typed.sockets_at key.now (view value.now)) }
 {
     let Some(sockets) = value.get(key) else {
         return Ok(Vec::new(alloc));

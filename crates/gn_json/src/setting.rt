@@ -5,7 +5,7 @@ ghost use Rattle.gn_kinds.specs.Seen.{setting_of};
 ghost use Rattle.gn_tree.specs.Seen as seen;
 ghost use Rattle.gn_tree.specs.Trees.{Settings};
 ghost use Rattle.gn_json.specs.Exact.{is_zone};
-ghost use Rattle.gn_json.specs.Typed as spec;
+ghost use Rattle.gn_json.specs.Typed as typed;
 ghost use Rattle.gn_json.specs.Settings.{found_then};
 
 use crate::part::{inputs_at, kind_at, sockets_at, string_at, text_at};
@@ -18,13 +18,13 @@ use serde_json::Value;
 use std::alloc::Global;
 
 fn place_at(places: &'static [Place], value: &Value, key: &str) -> Place
-    ensures { result ≡ spec.place_at places.now key.now (view value.now) }
+    ensures { result ≡ typed.place_at places.now key.now (view value.now) }
 {
     find_place(places, text_at(value, key)).unwrap_or(Place::Point)
 }
 
 fn truth_at(value: &Value, key: &str) -> bool
-    ensures { result ≡ spec.truth_at key.now (view value.now) }
+    ensures { result ≡ typed.truth_at key.now (view value.now) }
 {
     match value.get(key) {
         Some(member) => member.as_bool().unwrap_or(false),
@@ -33,7 +33,7 @@ fn truth_at(value: &Value, key: &str) -> bool
 }
 
 fn value_at(kind: ValueKind, value: &Value, key: &str) -> gn_value::Value
-    ensures { result ≡ spec.value_at kind key.now (view value.now) }
+    ensures { result ≡ typed.value_at kind key.now (view value.now) }
 {
     match value.get(key) {
         Some(member) => constant_as(kind, member).unwrap_or(gn_value::Value::Truth(false)),
@@ -44,7 +44,7 @@ fn value_at(kind: ValueKind, value: &Value, key: &str) -> gn_value::Value
 /// A setting that holds no nodes.
 fn setting_in(alloc: Global, form: SettingForm, set: &Value) -> Result<Option<Setting>, Memory>
     ensures { IfOk result (λ found. (rest : Settings) →
-        found_then found rest ≡ spec.then_setting (spec.setting_in (setting_of form) (view set.now)) rest) }
+        found_then found rest ≡ typed.then_setting (typed.setting_in (setting_of form) (view set.now)) rest) }
 {
     match form {
         SettingForm::Type(kinds) => Ok(Some(Setting::Of {
@@ -102,7 +102,7 @@ fn settings_before(
     set: &Value,
 ) -> Result<Vec<Setting>, Memory>
     ensures { IfOk result (λ settings. (rest : Settings) →
-        seen.settings_then settings.items rest ≡ spec.settings_before rest (map setting_of forms.now) (view set.now)) }
+        seen.settings_then settings.items rest ≡ typed.settings_before rest (map setting_of forms.now) (view set.now)) }
 {
     let mut settings = Vec::with_capacity(alloc, forms.len())?;
     for form in forms {
@@ -132,7 +132,7 @@ pub(crate) fn settings_in(
     nodes: Vec<Node>,
 ) -> Result<Vec<Setting>, Memory>
     ensures { IfOk result (λ settings.
-        seen.settings_of settings.items ≡ spec.settings_in (map setting_of forms.now) (view set.now) nodes.items) }
+        seen.settings_of settings.items ≡ typed.settings_in (map setting_of forms.now) (view set.now) nodes.items) }
 {
     let mut settings = settings_before(alloc, forms, set)?;
     if has_zone(forms) {

@@ -1,8 +1,8 @@
 ghost use Rattle.std.specs.Prelude.{◌≡◌, IfOk, map, option_map};
 ghost use Rattle.serde_json.specs.View.{view, items_view};
+ghost use Rattle.gn_tree.specs.Form.{IsOfForm};
 ghost use Rattle.gn_tree.specs.Seen as seen;
-ghost use Rattle.gn_tree.specs.Rising.{NamesRiseInTree};
-ghost use Rattle.gn_json.specs.Typed as spec;
+ghost use Rattle.gn_json.specs.Typed as typed;
 ghost use Rattle.gn_json.specs.Answers.{Answers, IsTreeWhereFit, Judged};
 
 use crate::fault::JsonFault;
@@ -17,7 +17,7 @@ use std::alloc::Global;
 use std::collections::VecDeque;
 
 fn nodes_at(alloc: Global, value: &Value) -> Result<Vec<Node>, Memory>
-    ensures { IfOk result (λ nodes. nodes.items ≡ spec.nodes_at (view value.now)) }
+    ensures { IfOk result (λ nodes. nodes.items ≡ typed.nodes_at (view value.now)) }
 {
     match value.as_object() {
         Some(members) => nodes_among(alloc, members),
@@ -26,7 +26,7 @@ fn nodes_at(alloc: Global, value: &Value) -> Result<Vec<Node>, Memory>
 }
 
 fn group_in(alloc: Global, value: &Value) -> Result<Group, Memory>
-    ensures { IfOk result (λ group. seen.group_of group ≡ spec.group_in (view value.now)) }
+    ensures { IfOk result (λ group. seen.group_of group ≡ typed.group_in (view value.now)) }
 {
     let name = string_at(alloc, value, "name")?;
     let inputs = sockets_at(alloc, value, "inputs")?;
@@ -43,7 +43,7 @@ fn group_in(alloc: Global, value: &Value) -> Result<Group, Memory>
 }
 
 fn groups_in(alloc: Global, items: &[Value]) -> Result<Vec<Group>, Memory>
-    ensures { IfOk result (λ groups. map seen.group_of groups.items ≡ spec.groups_in (items_view items.now)) }
+    ensures { IfOk result (λ groups. map seen.group_of groups.items ≡ typed.groups_in (items_view items.now)) }
 {
     let mut groups = Vec::with_capacity(alloc, items.len())?;
     for item in items {
@@ -53,7 +53,7 @@ fn groups_in(alloc: Global, items: &[Value]) -> Result<Vec<Group>, Memory>
 }
 
 fn groups_at(alloc: Global, value: &Value) -> Result<Vec<Group>, Memory>
-    ensures { IfOk result (λ groups. map seen.group_of groups.items ≡ (spec.tree_in (view value.now)).groups) }
+    ensures { IfOk result (λ groups. map seen.group_of groups.items ≡ (typed.tree_in (view value.now)).groups) }
 {
     let Some(groups) = value.get("groups") else {
         return Ok(Vec::new(alloc));
@@ -65,7 +65,7 @@ fn groups_at(alloc: Global, value: &Value) -> Result<Vec<Group>, Memory>
 }
 
 fn output_at(alloc: Global, value: &Value) -> Result<Option<TreeInput>, Memory>
-    ensures { IfOk result (λ output. option_map seen.input_of output ≡ (spec.tree_in (view value.now)).output) }
+    ensures { IfOk result (λ output. option_map seen.input_of output ≡ (typed.tree_in (view value.now)).output) }
 {
     match value.get("output") {
         Some(output) => {
@@ -77,7 +77,7 @@ fn output_at(alloc: Global, value: &Value) -> Result<Option<TreeInput>, Memory>
 }
 
 fn in_32_bits(number: u64) -> u32
-    ensures { result ≡ spec.in_32_bits number }
+    ensures { result ≡ typed.in_32_bits number }
 {
     if number < 4_294_967_296 {
         return number as u32;
@@ -86,7 +86,7 @@ fn in_32_bits(number: u64) -> u32
 }
 
 fn format_in(value: &Value) -> u32
-    ensures { result ≡ spec.format_in (view value.now) }
+    ensures { result ≡ typed.format_in (view value.now) }
 {
     let Some(format) = value.get("format") else {
         return 0;
@@ -98,7 +98,7 @@ fn format_in(value: &Value) -> u32
 }
 
 fn tree_in(alloc: Global, value: &Value) -> Result<Tree, Memory>
-    ensures { IfOk result (λ tree. seen.tree_of tree ≡ spec.tree_in (view value.now)) }
+    ensures { IfOk result (λ tree. seen.tree_of tree ≡ typed.tree_in (view value.now)) }
 {
     let groups = groups_at(alloc, value)?;
     let nodes = nodes_at(alloc, value)?;
@@ -133,8 +133,10 @@ fn judge(
 }
 
 /// Reads a tree from the bytes of its JSON text. All that is in the tree stands in the text: the value
-/// of each key that must be there, of its shape. The inputs of each node, and what each zone and each
-/// group gives out, stand in the order of their names' bytes.
+/// of each key that must be there, of its shape. The tree is of its form: the names and the kinds in it
+/// are ones that may stand there, the settings of a node are those of its kind's row, in their order and
+/// with values that the row allows, and the inputs of each node, and what each zone and each group gives
+/// out, stand in the order of their names' bytes.
 ///
 /// # Errors
 ///
@@ -144,7 +146,7 @@ fn judge(
 pub fn read(alloc: Global, bytes: &[u8]) -> Result<Tree, JsonFault>
     ensures answers { Answers bytes.now result }
     ensures whole { IsTreeWhereFit bytes.now }
-    ensures rising { IfOk result (λ tree. NamesRiseInTree (seen.tree_of tree)) }
+    ensures formed { IfOk result (λ tree. IsOfForm (seen.tree_of tree)) }
 {
     match Value::from_slice(alloc, bytes) {
         Ok(value) => judge(alloc, &value, first_misfit(alloc, &value)),

@@ -5,12 +5,18 @@ use Rattle.std.proofs.lemmas.Int.{ints}
 use Rattle.gn_value.specs.Rows.{choice_of, chosen, value_at}
 use Rattle.gn_value.specs.Values.{zero_of}
 use Rattle.gn_value.specs.declared.value.Value.{Value}
+use Rattle.gn_kernel.specs.Registers.{picked}
 use Rattle.gn_value.specs.declared.value.ValueKind.{ValueKind}
 
 -- a function of a choice chooses among what it gives
-pub of_choice : {X Y : Type 0} (f : X → Y) (b : Bool) (x y : X) → f (if b then x else y) ≡ (if b then f x else f y)
+of_choice : {X Y : Type 0} (f : X → Y) (b : Bool) (x y : X) → f (if b then x else y) ≡ (if b then f x else f y)
 of_choice f true x y = refl
 of_choice f false x y = refl
+
+pub of_picked : {X Y : Type 0} (f : X → Y) (case : ℕ) (choice : ℤ) (x y : X)
+    → f (picked case choice x y) ≡ (if int_eq choice (pos case) then f x else f y)
+unfolding picked
+of_picked f case choice x y = of_choice f (int_eq choice (pos case)) x y
 
 from_first : (n : ℕ) → int_le (pos 0) (pos n) ≡ true
 from_first n = grind (arith, ints)

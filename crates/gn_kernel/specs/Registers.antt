@@ -1,41 +1,17 @@
-use Rattle.std.specs.Prelude.{ℕ, ℤ, Bool, false, pos, List, [], slice_index_or, slice_get, Option, Some}
-use Rattle.gn_value.specs.Values.{fx, v3}
-use Rattle.gn_value.specs.Registers.{registers_named}
-use Rattle.gn_value.specs.declared.fixed.Fx.{Fx}
-use Rattle.gn_value.specs.declared.vector.V3.{V3}
+use Rattle.std.specs.Prelude.{ℕ, ℤ, pos, List, map, if◌then◌else◌}
+use Rattle.std.specs.Ordering.{int_eq}
+use Rattle.gn_value.specs.Registers.{register_value}
+use Rattle.gn_value.specs.Rows.{value_at}
+use Rattle.gn_value.specs.declared.value.Value.{Value}
 use Rattle.gn_value.specs.declared.op.Register.{Register}
-use Rattle.gn_value.specs.declared.op.Register.TheVariants.{Truth, Int, Fixed, Vector}
 
--- the register that the argument at a position names
-abbrev pub argument : List Register → List ℕ → ℕ → Option Register
-argument registers numbers at = slice_get (registers_named registers numbers) at
+-- the values of registers at a position, and the one with a number among them
+abbrev pub arguments : ℕ → List Register → List Value
+arguments k registers = map (register_value k) registers
 
--- the values of a register of a kind
-abbrev pub truth_list : Option Register → List Bool
-truth_list (Some (Truth values)) = values.items
-truth_list _ = []
+abbrev pub argument : ℕ → List Register → ℕ → Value
+argument k registers at = value_at (arguments k registers) at
 
-abbrev pub int_list : Option Register → List ℤ
-int_list (Some (Int values)) = values.items
-int_list _ = []
-
-abbrev pub fixed_list : Option Register → List Fx
-fixed_list (Some (Fixed values)) = values.items
-fixed_list _ = []
-
-abbrev pub vector_list : Option Register → List V3
-vector_list (Some (Vector values)) = values.items
-vector_list _ = []
-
--- the value at a position of such a list
-abbrev pub truth_in_list : List Bool → ℕ → Bool
-truth_in_list values k = slice_index_or values k false
-
-abbrev pub int_in_list : List ℤ → ℕ → ℤ
-int_in_list values k = slice_index_or values k (pos 0)
-
-abbrev pub fixed_in_list : List Fx → ℕ → Fx
-fixed_in_list values k = slice_index_or values k (fx (pos 0))
-
-abbrev pub vector_in_list : List V3 → ℕ → V3
-vector_in_list values k = slice_index_or values k (v3 (pos 0) (pos 0) (pos 0))
+-- the value where a choice is the case, and else the old one
+unfoldable pub picked : {T : Type 0} → ℕ → ℤ → T → T → T
+picked case choice value old = if int_eq choice (pos case) then value else old

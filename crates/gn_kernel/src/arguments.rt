@@ -1,77 +1,63 @@
-//! The arguments of an operation by their kinds.
-ghost use Rattle.std.specs.Prelude.{◌≡◌};
-ghost use Rattle.gn_value.specs.Values.{fx};
-ghost use Rattle.gn_value.specs.Rows.{choice_of, chosen, fixed_at, int_at, truth_at, value_at, vector_at};
+//! The registers that an operation reads.
+ghost use Rattle.std.specs.Prelude.{◌≡◌, ◌<◌, ℕ, All, List, Some, length, map, slice_get, slice_index_or};
+ghost use Rattle.gn_value.specs.Registers.{register_kind, register_len, registers_named};
+ghost use Rattle.gn_value.specs.declared.op.Register.{Register};
+ghost use Rattle.gn_kernel.specs.Registers.{argument};
 
-use gn_value::{Fx, V3, Value, ValueKind};
+use crate::of_kind::OfKind;
+use gn_value::op::Register;
+use std::marker::Model;
 
-/// The argument at a position; false beyond the last.
-pub fn value_at(args: &[Value], at: usize) -> Value
-    ensures { result ≡ value_at args.now at }
-{
-    args.get(at).copied().unwrap_or(Value::Truth(false))
+/// The registers that the arguments of an operation name, in order.
+#[derive(Drop)]
+pub struct Arguments<'a> {
+    registers: &'a [Register],
+    numbers: &'a [u32],
 }
 
-/// The truth at a position; false where none stands there.
-pub fn truth_at(args: &[Value], at: usize) -> bool
-    ensures { result ≡ truth_at args.now at }
-{
-    match value_at(args, at) {
-        Value::Truth(truth) => truth,
-        _ => false,
+impl<'a> Model for Arguments<'a> {
+    ghost Value = { List Register };
+
+    ghost view = { λ x. registers_named x.registers.now x.numbers.now };
+
+    ghost invariant = { λ x. All (λ number. number < length x.registers.now) x.numbers.now };
+}
+
+impl<'a> Arguments<'a> {
+    /// The registers with these numbers.
+    pub fn new(registers: &'a [Register], numbers: &'a [u32]) -> Arguments<'a>
+        requires { All (λ number. number < length registers.now) numbers.now }
+        ensures { result ≡ registers_named registers.now numbers.now }
+    {
+        Arguments { registers, numbers }
+    }
+
+    /// The register at a position.
+    pub fn get(&self, at: usize) -> &Register
+        requires { at < length self.now }
+        ensures { slice_get self.now at ≡ Some result.now }
+    {
+        register_named(self.registers, self.numbers, at)
+    }
+
+    /// The values of the register at a position, which has the kind of the type and a length.
+    pub fn list<T: OfKind>(&self, at: usize, count: usize) -> &[T]
+        requires long { All (λ register. register_len register ≡ count) self.now }
+        requires kind { slice_get (map register_kind self.now) at ≡ Some T.KIND }
+        ensures len { length result.now ≡ count }
+        ensures values { (k : ℕ) (v : T) → k < count →
+            slice_index_or result.now k v ≡ T.in_value (argument k self.now at) }
+    {
+        T::list(self.get(at))
     }
 }
 
-/// The integer at a position; 0 where none stands there.
-pub fn int_at(args: &[Value], at: usize) -> i32
-    ensures { result ≡ int_at args.now at }
+/// The register with the number at a position.
+#[tactic(auto, using(crate::proofs::Positions::argument_found))]
+fn register_named<'a>(registers: &'a [Register], numbers: &[u32], at: usize) -> &'a Register
+    requires in_range { All (λ number. number < length registers.now) numbers.now }
+    requires there { at < length numbers.now }
+    ensures { slice_get (registers_named registers.now numbers.now) at ≡ Some result.now }
 {
-    match value_at(args, at) {
-        Value::Int(integer) => integer,
-        _ => 0,
-    }
-}
-
-/// The fixed number at a position; 0 where none stands there.
-pub fn fixed_at(args: &[Value], at: usize) -> Fx
-    ensures { result ≡ fx (fixed_at args.now at) }
-{
-    match value_at(args, at) {
-        Value::Fixed(fixed) => fixed,
-        _ => Fx::ZERO,
-    }
-}
-
-/// The vector at a position; 0 where none stands there.
-pub fn vector_at(args: &[Value], at: usize) -> V3
-    ensures { result ≡ vector_at args.now at }
-{
-    match value_at(args, at) {
-        Value::Vector(vector) => vector,
-        _ => V3::ZERO,
-    }
-}
-
-/// The number by which a choice goes.
-pub fn choice_of(by: Value) -> i32
-    ensures { result ≡ choice_of by }
-{
-    match by {
-        Value::Truth(truth) => truth as i32,
-        Value::Int(integer) => integer,
-        _ => 0,
-    }
-}
-
-/// The value with the number that the choice says; the zero of the kind if no value has it.
-#[tactic(auto, unfolding(gn_value::specs::Rows::chosen))]
-pub fn chosen(kind: ValueKind, cases: u32, args: &[Value]) -> Value
-    ensures { result ≡ chosen kind cases args.now }
-{
-    let choice = choice_of(value_at(args, 0));
-    if 0 <= choice && (choice as i64) < cases as i64 {
-        value_at(args, choice as usize + 1)
-    } else {
-        Value::zero(kind)
-    }
+    &registers[numbers[at] as usize]
 }

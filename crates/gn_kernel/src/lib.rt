@@ -6,17 +6,13 @@
 #![tactic(auto)]
 
 mod arguments;
-mod conversions;
 mod element;
-mod fixed_loops;
 mod loops;
-mod many_registers;
 mod numbers;
+mod of_kind;
+mod operations;
 mod random;
-mod registers;
 mod selection;
-mod variants;
-mod vector_loops;
 mod whole;
 
 pub use element::one;

@@ -1,92 +1,102 @@
 //! One typed loop for each number of arguments.
-ghost use Rattle.std.specs.Prelude.{◌≡◌, ◌<◌, ℕ, length, slice_index_or};
+ghost use Rattle.std.specs.Prelude.{◌≡◌, ◌<◌, ℕ, All, [], ◌∷◌, length, map, slice_index_or};
+ghost use Rattle.gn_value.specs.Registers.{register_kind, register_len};
+ghost use Rattle.gn_kernel.specs.Registers.{argument};
 
-/// Sets each position to what `f` gives of the value there.
-pub fn each<A: Copy, R: Copy, F: Fn(A) -> R>(a: &[A], into: &mut [R], f: F)
+use crate::arguments::Arguments;
+use crate::of_kind::OfKind;
+
+/// Sets each position to what `f` gives of the argument there.
+pub fn each<A: OfKind, R: OfKind, F: Fn(A) -> R>(args: &Arguments, into: &mut [R], f: F)
     requires callable { F.IsAlwaysCallable f }
-    requires first { length a.now ≡ length into.old }
-    ensures { (k : ℕ) (v : A) (r : R) → k < length into.old →
-        F.post f (slice_index_or a.now k v) (slice_index_or into.new k r) }
+    requires long { All (λ register. register_len register ≡ length into.old) args.now }
+    requires kinds { map register_kind args.now ≡ A.KIND ∷ [] }
+    ensures { (k : ℕ) → k < length into.old →
+        F.post f (A.in_value (argument k args.now 0)) (slice_index_or into.new k R.zero) }
 {
+    let a: &[A] = args.list(0, into.len());
     for k in 0..into.len() {
         into[k] = f(a[k]);
     }
 }
 
-/// Sets each position to what `f` gives of the two values there.
-pub fn each_two<A: Copy, B: Copy, R: Copy, F: Fn(A, B) -> R>(a: &[A], b: &[B], into: &mut [R], f: F)
+/// Sets each position to what `f` gives of the two arguments there.
+pub fn each_two<A: OfKind, B: OfKind, R: OfKind, F: Fn(A, B) -> R>(
+    args: &Arguments,
+    into: &mut [R],
+    f: F,
+)
     requires callable { F.IsAlwaysCallable f }
-    requires first { length a.now ≡ length into.old }
-    requires second { length b.now ≡ length into.old }
-    ensures { (k : ℕ) (v : A) (w : B) (r : R) → k < length into.old →
-        F.post f (slice_index_or a.now k v) (slice_index_or b.now k w) (slice_index_or into.new k r) }
+    requires long { All (λ register. register_len register ≡ length into.old) args.now }
+    requires kinds { map register_kind args.now ≡ A.KIND ∷ B.KIND ∷ [] }
+    ensures { (k : ℕ) → k < length into.old →
+        F.post f (A.in_value (argument k args.now 0)) (B.in_value (argument k args.now 1)) (slice_index_or into.new k R.zero) }
 {
+    let a: &[A] = args.list(0, into.len());
+    let b: &[B] = args.list(1, into.len());
     for k in 0..into.len() {
         into[k] = f(a[k], b[k]);
     }
 }
 
-/// Sets each position to what `f` gives of the three values there.
-pub fn each_three<A: Copy, B: Copy, C: Copy, R: Copy, F: Fn(A, B, C) -> R>(
-    a: &[A],
-    b: &[B],
-    c: &[C],
+/// Sets each position to what `f` gives of the three arguments there.
+pub fn each_three<A: OfKind, B: OfKind, C: OfKind, R: OfKind, F: Fn(A, B, C) -> R>(
+    args: &Arguments,
     into: &mut [R],
     f: F,
 )
     requires callable { F.IsAlwaysCallable f }
-    requires first { length a.now ≡ length into.old }
-    requires second { length b.now ≡ length into.old }
-    requires third { length c.now ≡ length into.old }
-    ensures { (k : ℕ) (v : A) (w : B) (x : C) (r : R) → k < length into.old →
-        F.post f (slice_index_or a.now k v) (slice_index_or b.now k w) (slice_index_or c.now k x) (slice_index_or into.new k r) }
+    requires long { All (λ register. register_len register ≡ length into.old) args.now }
+    requires kinds { map register_kind args.now ≡ A.KIND ∷ B.KIND ∷ C.KIND ∷ [] }
+    ensures { (k : ℕ) → k < length into.old →
+        F.post f (A.in_value (argument k args.now 0)) (B.in_value (argument k args.now 1)) (C.in_value (argument k args.now 2)) (slice_index_or into.new k R.zero) }
 {
+    let a: &[A] = args.list(0, into.len());
+    let b: &[B] = args.list(1, into.len());
+    let c: &[C] = args.list(2, into.len());
     for k in 0..into.len() {
         into[k] = f(a[k], b[k], c[k]);
     }
 }
 
-/// Sets each position to what `f` gives of the four values there.
-pub fn each_four<A: Copy, B: Copy, C: Copy, D: Copy, R: Copy, F: Fn(A, B, C, D) -> R>(
-    a: &[A],
-    b: &[B],
-    c: &[C],
-    d: &[D],
+/// Sets each position to what `f` gives of the four arguments there.
+pub fn each_four<A: OfKind, B: OfKind, C: OfKind, D: OfKind, R: OfKind, F: Fn(A, B, C, D) -> R>(
+    args: &Arguments,
     into: &mut [R],
     f: F,
 )
     requires callable { F.IsAlwaysCallable f }
-    requires first { length a.now ≡ length into.old }
-    requires second { length b.now ≡ length into.old }
-    requires third { length c.now ≡ length into.old }
-    requires fourth { length d.now ≡ length into.old }
-    ensures { (k : ℕ) (v : A) (w : B) (x : C) (y : D) (r : R) → k < length into.old →
-        F.post f (slice_index_or a.now k v) (slice_index_or b.now k w) (slice_index_or c.now k x) (slice_index_or d.now k y) (slice_index_or into.new k r) }
+    requires long { All (λ register. register_len register ≡ length into.old) args.now }
+    requires kinds { map register_kind args.now ≡ A.KIND ∷ B.KIND ∷ C.KIND ∷ D.KIND ∷ [] }
+    ensures { (k : ℕ) → k < length into.old →
+        F.post f (A.in_value (argument k args.now 0)) (B.in_value (argument k args.now 1)) (C.in_value (argument k args.now 2)) (D.in_value (argument k args.now 3)) (slice_index_or into.new k R.zero) }
 {
+    let a: &[A] = args.list(0, into.len());
+    let b: &[B] = args.list(1, into.len());
+    let c: &[C] = args.list(2, into.len());
+    let d: &[D] = args.list(3, into.len());
     for k in 0..into.len() {
         into[k] = f(a[k], b[k], c[k], d[k]);
     }
 }
 
-/// Sets each position to what `f` gives of the five values there.
-pub fn each_five<A: Copy, B: Copy, C: Copy, D: Copy, E: Copy, R: Copy, F: Fn(A, B, C, D, E) -> R>(
-    a: &[A],
-    b: &[B],
-    c: &[C],
-    d: &[D],
-    e: &[E],
+/// Sets each position to what `f` gives of the five arguments there, which have one kind.
+pub fn each_five<A: OfKind, R: OfKind, F: Fn(A, A, A, A, A) -> R>(
+    args: &Arguments,
     into: &mut [R],
     f: F,
 )
     requires callable { F.IsAlwaysCallable f }
-    requires first { length a.now ≡ length into.old }
-    requires second { length b.now ≡ length into.old }
-    requires third { length c.now ≡ length into.old }
-    requires fourth { length d.now ≡ length into.old }
-    requires fifth { length e.now ≡ length into.old }
-    ensures { (k : ℕ) (v : A) (w : B) (x : C) (y : D) (z : E) (r : R) → k < length into.old →
-        F.post f (slice_index_or a.now k v) (slice_index_or b.now k w) (slice_index_or c.now k x) (slice_index_or d.now k y) (slice_index_or e.now k z) (slice_index_or into.new k r) }
+    requires long { All (λ register. register_len register ≡ length into.old) args.now }
+    requires kinds { map register_kind args.now ≡ A.KIND ∷ A.KIND ∷ A.KIND ∷ A.KIND ∷ A.KIND ∷ [] }
+    ensures { (k : ℕ) → k < length into.old →
+        F.post f (A.in_value (argument k args.now 0)) (A.in_value (argument k args.now 1)) (A.in_value (argument k args.now 2)) (A.in_value (argument k args.now 3)) (A.in_value (argument k args.now 4)) (slice_index_or into.new k R.zero) }
 {
+    let a: &[A] = args.list(0, into.len());
+    let b: &[A] = args.list(1, into.len());
+    let c: &[A] = args.list(2, into.len());
+    let d: &[A] = args.list(3, into.len());
+    let e: &[A] = args.list(4, into.len());
     for k in 0..into.len() {
         into[k] = f(a[k], b[k], c[k], d[k], e[k]);
     }
@@ -98,23 +108,5 @@ pub fn set_all<R: Copy>(value: R, into: &mut [R])
 {
     for k in 0..into.len() {
         into[k] = value;
-    }
-}
-
-/// Sets each position to what `f` gives of the value that stands there and of the two values there.
-pub fn change_two<A: Copy, B: Copy, R: Copy, F: Fn(R, A, B) -> R>(
-    a: &[A],
-    b: &[B],
-    into: &mut [R],
-    f: F,
-)
-    requires callable { F.IsAlwaysCallable f }
-    requires first { length a.now ≡ length into.old }
-    requires second { length b.now ≡ length into.old }
-    ensures { (k : ℕ) (v : A) (w : B) (r : R) → k < length into.old →
-        F.post f (slice_index_or into.old k r) (slice_index_or a.now k v) (slice_index_or b.now k w) (slice_index_or into.new k r) }
-{
-    for k in 0..into.len() {
-        into[k] = f(into[k], a[k], b[k]);
     }
 }

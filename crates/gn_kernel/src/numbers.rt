@@ -2,9 +2,10 @@
 ghost use Rattle.std.specs.Prelude.{◌≡◌, ◌*ℤ◌, ◌-ℤ◌};
 ghost use Rattle.std.specs.Int.{int_signum};
 ghost use Rattle.gn_value.specs.Arithmetic.{floor_of, one, sat_int};
-ghost use Rattle.gn_value.specs.Values.{by_component, fx};
+ghost use Rattle.gn_value.specs.Values.{by_component, fx, v3};
 ghost use Rattle.gn_value.specs.Rows.{between, boolean_row, clamp_row, compare_row, component_row, integer_quotient, integer_row, map_range_row, math_row, mix_row, range_part, round_row, unit_part, vector_row};
 
+use crate::of_kind::Number;
 use gn_value::op::{
     Axis, BooleanMathOp, CompareOp, IntegerMathOp, MathOp, RoundMode, VectorMathOp,
 };
@@ -112,11 +113,12 @@ pub fn boolean_math(op: BooleanMathOp, a: bool, b: bool) -> bool
     }
 }
 
-/// A comparison of integers.
+/// A comparison of two numbers.
 #[tactic(auto, unfolding(gn_value::specs::Rows::compare_row))]
-pub fn compare_integers(op: CompareOp, a: i32, b: i32) -> bool
-    ensures { result ≡ compare_row op a b }
+pub fn compare<N: Number>(op: CompareOp, a: N, b: N) -> bool
+    ensures { result ≡ compare_row op (N.number a) (N.number b) }
 {
+    let (a, b) = (a.number(), b.number());
     match op {
         CompareOp::Less => a < b,
         CompareOp::LessEqual => a <= b,
@@ -124,21 +126,6 @@ pub fn compare_integers(op: CompareOp, a: i32, b: i32) -> bool
         CompareOp::GreaterEqual => b <= a,
         CompareOp::Equal => a == b,
         CompareOp::NotEqual => a != b,
-    }
-}
-
-/// A comparison of fixed numbers.
-#[tactic(auto, unfolding(gn_value::specs::Rows::compare_row))]
-pub fn compare_fixed(op: CompareOp, a: Fx, b: Fx) -> bool
-    ensures { result ≡ compare_row op a.0 b.0 }
-{
-    match op {
-        CompareOp::Less => a.0 < b.0,
-        CompareOp::LessEqual => a.0 <= b.0,
-        CompareOp::Greater => b.0 < a.0,
-        CompareOp::GreaterEqual => b.0 <= a.0,
-        CompareOp::Equal => a.0 == b.0,
-        CompareOp::NotEqual => a.0 != b.0,
     }
 }
 
@@ -224,4 +211,11 @@ pub fn component(axis: Axis, a: V3) -> Fx
         Axis::Y => a.y,
         Axis::Z => a.z,
     }
+}
+
+/// The vector with these components.
+pub fn combine(x: Fx, y: Fx, z: Fx) -> V3
+    ensures { result ≡ v3 x.0 y.0 z.0 }
+{
+    V3 { x, y, z }
 }

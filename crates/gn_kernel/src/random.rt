@@ -8,7 +8,7 @@ use gn_value::{Fx, V3, mix64};
 
 /// The hash of an id and a seed, which count by their bits.
 #[tactic(auto, unfolding(gn_value::specs::Rows::random_hash))]
-pub fn random_hash(id: i32, seed: i32) -> u64
+fn random_hash(id: i32, seed: i32) -> u64
     ensures { result ≡ random_hash id seed }
 {
     let seed = (seed.cast_unsigned() as u64).wrapping_add(0x9E3779B97F4A7C15);
@@ -23,8 +23,15 @@ fn high_half(hash: u64) -> Fx
 }
 
 /// A number between two.
+pub fn random_fixed(low: Fx, high: Fx, id: i32, seed: i32) -> Fx
+    ensures { result ≡ fx (random_fixed low.0 high.0 (random_hash id seed)) }
+{
+    fixed_by(low, high, random_hash(id, seed))
+}
+
+/// A number between two, by a hash.
 #[tactic(auto, unfolding(gn_value::specs::Rows::random_fixed))]
-pub fn random_fixed(low: Fx, high: Fx, hash: u64) -> Fx
+fn fixed_by(low: Fx, high: Fx, hash: u64) -> Fx
     ensures { result ≡ fx (random_fixed low.0 high.0 hash) }
 {
     between(high_half(hash), low, high)
@@ -43,8 +50,15 @@ fn share(part: u64, count: u64) -> u64
 }
 
 /// An integer from the least to the greatest; the least where they are turned round.
+pub fn random_int(low: i32, high: i32, id: i32, seed: i32) -> i32
+    ensures { result ≡ random_int low high (random_hash id seed) }
+{
+    int_by(low, high, random_hash(id, seed))
+}
+
+/// Such an integer, by a hash.
 #[tactic(auto, unfolding(gn_value::specs::Rows::random_int))]
-pub fn random_int(low: i32, high: i32, hash: u64) -> i32
+fn int_by(low: i32, high: i32, hash: u64) -> i32
     ensures { result ≡ random_int low high hash }
 {
     if high < low {
@@ -73,20 +87,21 @@ fn component_hash(hash: u64, component: u64) -> u64
 
 /// A vector between two, each component by itself.
 #[tactic(auto, unfolding(gn_value::specs::Rows::random_vector))]
-pub fn random_vector(low: V3, high: V3, hash: u64) -> V3
-    ensures { result ≡ random_vector low high hash }
+pub fn random_vector(low: V3, high: V3, id: i32, seed: i32) -> V3
+    ensures { result ≡ random_vector low high (random_hash id seed) }
 {
+    let hash = random_hash(id, seed);
     V3 {
-        x: random_fixed(low.x, high.x, component_hash(hash, 0)),
-        y: random_fixed(low.y, high.y, component_hash(hash, 1)),
-        z: random_fixed(low.z, high.z, component_hash(hash, 2)),
+        x: fixed_by(low.x, high.x, component_hash(hash, 0)),
+        y: fixed_by(low.y, high.y, component_hash(hash, 1)),
+        z: fixed_by(low.z, high.z, component_hash(hash, 2)),
     }
 }
 
 /// A truth that holds as often as the probability says.
 #[tactic(auto, unfolding(gn_value::specs::Rows::random_truth))]
-pub fn random_truth(probability: Fx, hash: u64) -> bool
-    ensures { result ≡ random_truth probability.0 hash }
+pub fn random_truth(probability: Fx, id: i32, seed: i32) -> bool
+    ensures { result ≡ random_truth probability.0 (random_hash id seed) }
 {
-    high_half(hash).0 < probability.0
+    high_half(random_hash(id, seed)).0 < probability.0
 }

@@ -1,25 +1,22 @@
 //! The operations on whole registers.
-ghost use Rattle.std.specs.Prelude.{◌≡◌, ◌<◌, ℕ, All, length, map};
+ghost use Rattle.std.specs.Prelude.{◌≡◌, ◌<◌, ℕ, All, false, length, map, pos, slice_index_or};
 ghost use Rattle.gn_value.specs.Registers.{register_kind, register_len, register_value, registers_named};
 ghost use Rattle.gn_value.specs.Operations.{Takes, gives};
 ghost use Rattle.gn_value.specs.Rows.{row};
+ghost use Rattle.gn_value.specs.Values.{fx, v3};
 ghost use Rattle.gn_value.specs.declared.value.Value.TheVariants.{Fixed as fixed, Int as int, Truth as truth, Vector as vector};
 ghost use Rattle.gn_value.specs.declared.value.ValueKind.TheVariants.{Fixed, Int, Truth, Vector};
-ghost use Rattle.gn_kernel.specs.Registers.{fixed_in_list, int_in_list, truth_in_list, vector_in_list};
+ghost use Rattle.gn_kernel.specs.Registers.{arguments};
 
-use crate::conversions::{
-    convert_fixed_registers, convert_int_registers, convert_truth_registers,
-    convert_vector_registers,
+use crate::arguments::Arguments;
+use crate::loops::{each_five, each_four, each_three};
+use crate::numbers::{clamp, combine, map_range, mix, mix_vectors};
+use crate::operations::{
+    boolean_lists, compare_lists, component_lists, convert_lists, integer_lists, math_lists,
+    round_lists, vector_lists, vector_number_lists,
 };
-use crate::many_registers::{
-    boolean_registers, clamp_lists, combine_lists, compare_fixed_registers, compare_int_registers,
-    integer_registers, map_range_lists, math_registers, mix_lists, mix_vector_lists,
-    random_fixed_lists, random_int_lists, random_truth_lists, random_vector_lists, round_registers,
-    separate_registers, vector_number_registers, vector_registers,
-};
-use crate::selection::{
-    select_fixed_registers, select_int_registers, select_truth_registers, select_vector_registers,
-};
+use crate::random::{random_fixed, random_int, random_truth, random_vector};
+use crate::selection::select;
 use gn_value::op::{CompareKind, MixKind, Op, Register};
 use gn_value::{Fx, V3, ValueKind};
 
@@ -36,44 +33,43 @@ pub fn many(op: &Op, registers: &[Register], args: &[u32], into: &mut Register)
     ensures values { (k : ℕ) → k < register_len into.old →
         register_value k into.new ≡ row op.now (map (register_value k) (registers_named registers.now args.now)) }
 {
+    let args = Arguments::new(registers, args);
     match into {
-        Register::Truth(values) => many_truths(*op, registers, args, values.as_mut_slice()),
-        Register::Int(values) => many_integers(*op, registers, args, values.as_mut_slice()),
-        Register::Fixed(values) => many_numbers(*op, registers, args, values.as_mut_slice()),
-        Register::Vector(values) => many_vectors(*op, registers, args, values.as_mut_slice()),
+        Register::Truth(values) => many_truths(*op, &args, values.as_mut_slice()),
+        Register::Int(values) => many_integers(*op, &args, values.as_mut_slice()),
+        Register::Fixed(values) => many_numbers(*op, &args, values.as_mut_slice()),
+        Register::Vector(values) => many_vectors(*op, &args, values.as_mut_slice()),
     }
 }
 
 /// The operations that give truths.
-#[tactic(auto, unfolding(gn_value::specs::Operations::Takes, gn_value::specs::Operations::gives), using(crate::proofs::Positions::vectors_give_no_truth, crate::proofs::Positions::mixtures_give_no_truth))]
-fn many_truths(op: Op, registers: &[Register], args: &[u32], into: &mut [bool])
-    requires in_range { All (λ number. number < length registers.now) args.now }
-    requires one_length { All (λ register. register_len register ≡ length into.old) (registers_named registers.now args.now) }
-    requires takes { Takes op (map register_kind (registers_named registers.now args.now)) }
+#[tactic(auto, unfolding(gn_value::specs::Operations::Takes, gn_value::specs::Operations::gives, gn_value::specs::Rows::row), using(crate::proofs::Positions::vectors_give_no_truth, crate::proofs::Positions::mixtures_give_no_truth))]
+fn many_truths(op: Op, args: &Arguments, into: &mut [bool])
+    requires long { All (λ register. register_len register ≡ length into.old) args.now }
+    requires takes { Takes op (map register_kind args.now) }
     requires gives { gives op ≡ Truth }
-    ensures { (k : ℕ) → k < length into.old →
-        truth (truth_in_list into.new k) ≡ row op (map (register_value k) (registers_named registers.now args.now)) }
+    ensures { (k : ℕ) → k < length into.old → truth (slice_index_or into.new k false) ≡ row op (arguments k args.now) }
 {
     match op {
-        Op::BooleanMath { op } => boolean_registers(op, registers, args, into),
+        Op::BooleanMath { op } => boolean_lists(op, args, into),
         Op::Compare {
             kind: CompareKind::Int,
             op,
-        } => compare_int_registers(op, registers, args, into),
+        } => compare_lists::<i32>(op, args, into),
         Op::Compare {
             kind: CompareKind::Fixed,
             op,
-        } => compare_fixed_registers(op, registers, args, into),
+        } => compare_lists::<Fx>(op, args, into),
         Op::RandomValue {
             kind: ValueKind::Truth,
-        } => random_truth_lists(registers, args, into),
+        } => each_three(args, into, random_truth),
         Op::Convert {
             to: ValueKind::Truth,
-        } => convert_truth_registers(registers, args, into),
+        } => convert_lists(args, into),
         Op::Select {
             kind: ValueKind::Truth,
             cases,
-        } => select_truth_registers(cases, registers, args, into),
+        } => select(cases, args, into),
         Op::VectorMath { .. } | Op::Mix { .. } => {}
         // No other operation gives such values.
         _ => {}
@@ -81,26 +77,24 @@ fn many_truths(op: Op, registers: &[Register], args: &[u32], into: &mut [bool])
 }
 
 /// The operations that give integers.
-#[tactic(auto, unfolding(gn_value::specs::Operations::Takes, gn_value::specs::Operations::gives), using(crate::proofs::Positions::vectors_give_no_int, crate::proofs::Positions::mixtures_give_no_int))]
-fn many_integers(op: Op, registers: &[Register], args: &[u32], into: &mut [i32])
-    requires in_range { All (λ number. number < length registers.now) args.now }
-    requires one_length { All (λ register. register_len register ≡ length into.old) (registers_named registers.now args.now) }
-    requires takes { Takes op (map register_kind (registers_named registers.now args.now)) }
+#[tactic(auto, unfolding(gn_value::specs::Operations::Takes, gn_value::specs::Operations::gives, gn_value::specs::Rows::row), using(crate::proofs::Positions::vectors_give_no_int, crate::proofs::Positions::mixtures_give_no_int))]
+fn many_integers(op: Op, args: &Arguments, into: &mut [i32])
+    requires long { All (λ register. register_len register ≡ length into.old) args.now }
+    requires takes { Takes op (map register_kind args.now) }
     requires gives { gives op ≡ Int }
-    ensures { (k : ℕ) → k < length into.old →
-        int (int_in_list into.new k) ≡ row op (map (register_value k) (registers_named registers.now args.now)) }
+    ensures { (k : ℕ) → k < length into.old → int (slice_index_or into.new k (pos 0)) ≡ row op (arguments k args.now) }
 {
     match op {
-        Op::IntegerMath { op } => integer_registers(op, registers, args, into),
-        Op::FloatToInteger { op } => round_registers(op, registers, args, into),
+        Op::IntegerMath { op } => integer_lists(op, args, into),
+        Op::FloatToInteger { op } => round_lists(op, args, into),
         Op::RandomValue {
             kind: ValueKind::Int,
-        } => random_int_lists(registers, args, into),
-        Op::Convert { to: ValueKind::Int } => convert_int_registers(registers, args, into),
+        } => each_four(args, into, random_int),
+        Op::Convert { to: ValueKind::Int } => convert_lists(args, into),
         Op::Select {
             kind: ValueKind::Int,
             cases,
-        } => select_int_registers(cases, registers, args, into),
+        } => select(cases, args, into),
         Op::VectorMath { .. } | Op::Mix { .. } => {}
         // No other operation gives such values.
         _ => {}
@@ -108,65 +102,65 @@ fn many_integers(op: Op, registers: &[Register], args: &[u32], into: &mut [i32])
 }
 
 /// The operations that give fixed numbers.
-#[tactic(auto, unfolding(gn_value::specs::Operations::Takes, gn_value::specs::Operations::gives))]
-fn many_numbers(op: Op, registers: &[Register], args: &[u32], into: &mut [Fx])
-    requires in_range { All (λ number. number < length registers.now) args.now }
-    requires one_length { All (λ register. register_len register ≡ length into.old) (registers_named registers.now args.now) }
-    requires takes { Takes op (map register_kind (registers_named registers.now args.now)) }
+#[tactic(auto, unfolding(gn_value::specs::Operations::Takes, gn_value::specs::Operations::gives, gn_value::specs::Rows::row))]
+fn many_numbers(op: Op, args: &Arguments, into: &mut [Fx])
+    requires long { All (λ register. register_len register ≡ length into.old) args.now }
+    requires takes { Takes op (map register_kind args.now) }
     requires gives { gives op ≡ Fixed }
-    ensures { (k : ℕ) → k < length into.old →
-        fixed (fixed_in_list into.new k) ≡ row op (map (register_value k) (registers_named registers.now args.now)) }
+    ensures { (k : ℕ) → k < length into.old → fixed (slice_index_or into.new k (fx (pos 0))) ≡ row op (arguments k args.now) }
 {
     match op {
-        Op::Math { op } => math_registers(op, registers, args, into),
-        Op::VectorMath { op } => vector_number_registers(op, registers, args, into),
-        Op::Clamp => clamp_lists(registers, args, into),
-        Op::MapRange { clamp } => map_range_lists(clamp, registers, args, into),
+        Op::Math { op } => math_lists(op, args, into),
+        Op::VectorMath { op } => vector_number_lists(op, args, into),
+        Op::Clamp => each_three(args, into, clamp),
+        Op::MapRange { clamp } => each_five(
+            args,
+            into,
+            |value: Fx, a: Fx, b: Fx, c: Fx, d: Fx| map_range(clamp, value, (a, b), (c, d)),
+        ),
         Op::Mix {
             kind: MixKind::Fixed,
-        } => mix_lists(registers, args, into),
-        Op::SeparateXyz { axis } => separate_registers(axis, registers, args, into),
+        } => each_three(args, into, mix),
+        Op::SeparateXyz { axis } => component_lists(axis, args, into),
         Op::RandomValue {
             kind: ValueKind::Fixed,
-        } => random_fixed_lists(registers, args, into),
+        } => each_four(args, into, random_fixed),
         Op::Convert {
             to: ValueKind::Fixed,
-        } => convert_fixed_registers(registers, args, into),
+        } => convert_lists(args, into),
         Op::Select {
             kind: ValueKind::Fixed,
             cases,
-        } => select_fixed_registers(cases, registers, args, into),
+        } => select(cases, args, into),
         // No other operation gives such values.
         _ => {}
     }
 }
 
 /// The operations that give vectors.
-#[tactic(auto, unfolding(gn_value::specs::Operations::Takes, gn_value::specs::Operations::gives))]
-fn many_vectors(op: Op, registers: &[Register], args: &[u32], into: &mut [V3])
-    requires in_range { All (λ number. number < length registers.now) args.now }
-    requires one_length { All (λ register. register_len register ≡ length into.old) (registers_named registers.now args.now) }
-    requires takes { Takes op (map register_kind (registers_named registers.now args.now)) }
+#[tactic(auto, unfolding(gn_value::specs::Operations::Takes, gn_value::specs::Operations::gives, gn_value::specs::Rows::row))]
+fn many_vectors(op: Op, args: &Arguments, into: &mut [V3])
+    requires long { All (λ register. register_len register ≡ length into.old) args.now }
+    requires takes { Takes op (map register_kind args.now) }
     requires gives { gives op ≡ Vector }
-    ensures { (k : ℕ) → k < length into.old →
-        vector (vector_in_list into.new k) ≡ row op (map (register_value k) (registers_named registers.now args.now)) }
+    ensures { (k : ℕ) → k < length into.old → vector (slice_index_or into.new k (v3 (pos 0) (pos 0) (pos 0))) ≡ row op (arguments k args.now) }
 {
     match op {
-        Op::VectorMath { op } => vector_registers(op, registers, args, into),
+        Op::VectorMath { op } => vector_lists(op, args, into),
         Op::Mix {
             kind: MixKind::Vector,
-        } => mix_vector_lists(registers, args, into),
-        Op::CombineXyz => combine_lists(registers, args, into),
+        } => each_three(args, into, mix_vectors),
+        Op::CombineXyz => each_three(args, into, combine),
         Op::RandomValue {
             kind: ValueKind::Vector,
-        } => random_vector_lists(registers, args, into),
+        } => each_four(args, into, random_vector),
         Op::Convert {
             to: ValueKind::Vector,
-        } => convert_vector_registers(registers, args, into),
+        } => convert_lists(args, into),
         Op::Select {
             kind: ValueKind::Vector,
             cases,
-        } => select_vector_registers(cases, registers, args, into),
+        } => select(cases, args, into),
         // No other operation gives such values.
         _ => {}
     }
@@ -175,7 +169,7 @@ fn many_vectors(op: Op, registers: &[Register], args: &[u32], into: &mut [V3])
 #[cfg(test)]
 mod tests {
     use super::*;
-    use crate::registers::int_found;
+    use crate::of_kind::OfKind;
     use gn_value::op::IntegerMathOp;
     use std::test::Fail;
 
@@ -191,8 +185,7 @@ mod tests {
             op: IntegerMathOp::Divide,
         };
         many(&op, &registers, &[0, 1], &mut quotients);
-        let found = [quotients];
-        assert_eq!(rt; int_found(&found, &[0], 0), [-3, 0, i32::MAX].as_slice());
+        assert_eq!(rt; i32::list(&quotients), [-3, 0, i32::MAX].as_slice());
         Ok(())
     }
 }

@@ -1,4 +1,5 @@
 pub mod Row
 pub mod Names
+pub mod Text
 pub mod Seen
 pub mod Table

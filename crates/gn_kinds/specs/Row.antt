@@ -1,5 +1,6 @@
 -- The row of a kind of node: its settings, inputs and outputs.
-use Rattle.std.specs.Prelude.{ℕ, Bool, List}
+use Rattle.std.specs.Prelude.{ℕ, Bool, List, bytes_eq}
+use Rattle.std.specs.List.{list_any}
 use Rattle.gn_value.specs.declared.value.Place.{Place}
 use Rattle.gn_value.specs.declared.value.ValueKind.{ValueKind}
 use Rattle.gn_kinds.specs.declared.row.SocketKind.{SocketKind}
@@ -51,3 +52,7 @@ abbrev pub output_name : Output → Text
 output_name (field_out name _) = name
 output_name (geometry_out name) = name
 output_name (chosen_out name) = name
+
+-- one of these inputs has the name
+abbrev pub has_input : List Input → Text → Bool
+has_input inputs name = list_any (λ x. bytes_eq (input_name x) name) inputs

@@ -16,12 +16,14 @@ fn without_mark(bytes: &[u8]) -> &[u8]
     }
 }
 
+#[inline(always)]
 fn is_blank(byte: u8) -> bool
     ensures { result ≡ spec.is_blank byte }
 {
     byte == b' ' || byte == b'\t' || byte == b'\r'
 }
 
+#[inline(always)]
 fn is_separator(byte: u8) -> bool
     ensures { result ≡ is_separator byte }
 {
@@ -29,6 +31,7 @@ fn is_separator(byte: u8) -> bool
 }
 
 /// The text behind the blanks that it begins with.
+#[inline(always)]
 fn after_blanks(text: &[u8]) -> &[u8]
     ensures { result.now ≡ after_blanks text.now }
 {
@@ -53,6 +56,7 @@ fn from_line_feed(text: &[u8]) -> &[u8]
 }
 
 /// Where the text begins with the end of a line, or with a comment, the text from that end on.
+#[inline(always)]
 fn from_end(text: &[u8]) -> Option<&[u8]>
     ensures { option_map (λ t. t.now) result ≡ from_end text.now }
 {
@@ -65,6 +69,8 @@ fn from_end(text: &[u8]) -> Option<&[u8]>
 }
 
 /// The same behind blanks.
+#[cold]
+#[inline(never)]
 fn line_end(text: &[u8]) -> Option<&[u8]>
     ensures { option_map (λ t. t.now) result ≡ line_end text.now }
 {
@@ -72,19 +78,20 @@ fn line_end(text: &[u8]) -> Option<&[u8]>
 }
 
 /// The bytes up to a blank or a line feed, and the text behind them.
+#[inline(always)]
 fn split_word(text: &[u8]) -> (&[u8], &[u8])
     ensures word { result.0.now ≡ word_at text.now }
     ensures behind { result.1.now ≡ after_word text.now }
 {
-    for (i, byte) in text.iter().enumerate() {
-        if is_separator(*byte) {
-            return text.split_at(i);
-        }
+    let mut len = 0;
+    while len < text.len() && !is_separator(text[len]) {
+        len += 1;
     }
-    text.split_at(text.len())
+    text.split_at(len)
 }
 
 /// Whether a word ends with a backslash.
+#[inline(always)]
 fn ends_with_backslash(word: &[u8]) -> bool
     ensures { result ≡ spec.ends_with_backslash word.now }
 {
@@ -102,11 +109,17 @@ enum Step<'a> {
     Continued { word: &'a [u8], end: &'a [u8] },
 }
 
-fn word_step(text: &[u8]) -> Step<'_>
-    requires { line_end text.now ≡ None }
+/// What comes next in the line that the text begins with.
+#[inline(always)]
+fn next_step(text: &[u8]) -> Step<'_>
     ensures { IsStep text.now result }
 {
-    let (word, behind) = split_word(after_blanks(text));
+    let front = after_blanks(text);
+    match from_end(front) {
+        Some(end) => return Step::End(end),
+        None => {}
+    }
+    let (word, behind) = split_word(front);
     if !ends_with_backslash(word) {
         return Step::Word { word, behind };
     }
@@ -119,16 +132,8 @@ fn word_step(text: &[u8]) -> Step<'_>
     }
 }
 
-fn next_step(text: &[u8]) -> Step<'_>
-    ensures { IsStep text.now result }
-{
-    match line_end(text) {
-        Some(end) => Step::End(end),
-        None => word_step(text),
-    }
-}
-
 /// The text behind the line feed that it begins with, and how many of these were passed.
+#[inline(always)]
 fn past_line_feed(passed: u64, end: &[u8]) -> (u64, &[u8])
     requires { passed + length end.now < 2 ^ 64 }
     ensures lines { spec.lines_from (result.0 + 1) (spec.physical_lines result.1.now) ≡ lines_past (passed + 1) end.now }
@@ -177,6 +182,7 @@ impl<'a> Lines<'a> {
     }
 
     /// The number of the line that is about to be read, from 1, if it has a word.
+    #[inline(always)]
     pub fn number(&self) -> u64
         ensures { spec.first_words self.now ≢ [] → result ≡ spec.first_number self.now }
     {
@@ -184,6 +190,7 @@ impl<'a> Lines<'a> {
     }
 
     /// Takes the next word of the line that is being read.
+    #[inline(always)]
     pub fn next_word(&mut self) -> Option<&'a [u8]>
         ensures word { MatchOption result (IsAtEnd self.old self.new)
             (λ word. spec.first_words self.old ≡ word.now ∷ spec.first_words self.new) }
@@ -210,6 +217,7 @@ impl<'a> Lines<'a> {
     }
 
     /// Goes on to the next line, if there is one.
+    #[inline(always)]
     pub fn next_line(&mut self) -> bool
         ensures line { IsNextLine result self.old self.new }
         ensures fewer { IsTrue result → length (spec.other_lines self.new) < length (spec.other_lines self.old) }

@@ -14,7 +14,7 @@ use Rattle.gn_rules.specs.Sockets.{declared, single, one, one_of, chosen, group_
 use Rattle.gn_rules.specs.Scopes.{Scope, tree_scope, group_scope, zone_scope, is_above}
 use Rattle.gn_rules.specs.Things.{Thing, the_groups, a_group as a_group_thing, all_nodes, the_nodes, a_node as a_node_thing, a_group_name, an_input, given_out as given_out_thing, settings_under, output_under}
 use Rattle.gn_rules.specs.Rules.{KeepsRules}
-use Rattle.gn_meaning.specs.Bodies.{Body, output_of, tree_body, group_body, group_named, zone_body, body_in}
+use Rattle.gn_meaning.specs.Bodies.{Body, output_of, tree_body, group_body, body_named, zone_body, body_in}
 use Rattle.gn_meaning.specs.Forms.{NodesHaveForm, NodeHasForm, SettingsHaveForm, GroupsHaveForm, HasForm}
 use Rattle.gn_meaning.proofs.Options.{some_same, then_some, map_some}
 use Rattle.gn_meaning.proofs.Reached.{Reached, at_top, part, keeps_rule, node_part, group_part}
@@ -76,7 +76,7 @@ module _ (t : Tree) (keeps : KeepsRules t) (s : Scope) (kind : Text) where
   abbrev pub Under : Settings → Type 0
   Under set = (step : Step) (x : Thing) → member_at step (settings_under s set) ≡ Some x → Reached t x
 
-  inner_of_group : (set : Settings) (name : Text) (b : Body) → group_in set ≡ Some name → kind ≡ codes "group" → Reached t (a_group_name s name) → group_named s.groups name ≡ Some b → Inner t s kind (group_in set) (items_in set) (settings_size set) b
+  inner_of_group : (set : Settings) (name : Text) (b : Body) → group_in set ≡ Some name → kind ≡ codes "group" → Reached t (a_group_name s name) → body_named s.groups name ≡ Some b → Inner t s kind (group_in set) (items_in set) (settings_size set) b
   inner_of_group set name b at is there e =
       let number : (i : ℕ) × (first_of (group_names s.groups) name ≡ Some i) × (option_map (group_body s.groups i) (slice_get s.groups i) ≡ Some b) =
       then_some (λ i. option_map (group_body s.groups i) (slice_get s.groups i)) (first_of (group_names s.groups) name) b e in

@@ -25,8 +25,8 @@ tree_body t = record { scope = tree_scope t; sockets = record { name = codes "ge
 abbrev pub group_body : List Group → ℕ → Group → Body
 group_body gs i g = record { scope = group_scope gs i g; sockets = g.outputs; output = g.output }
 
-abbrev pub group_named : List Group → Text → Option Body
-group_named gs name = option_and_then (λ i. option_map (group_body gs i) (slice_get gs i)) (first_of (group_names gs) name)
+abbrev pub body_named : List Group → Text → Option Body
+body_named gs name = option_and_then (λ i. option_map (group_body gs i) (slice_get gs i)) (first_of (group_names gs) name)
 
 abbrev pub zone_body : Scope → Text → List Socket → Nodes → List Named → Body
 zone_body s kind items nodes output = record { scope = zone_scope s items nodes; sockets = items; output = output }
@@ -34,7 +34,7 @@ zone_body s kind items nodes output = record { scope = zone_scope s items nodes;
 -- the body of a group node or a zone of some kind, by its settings; no other node has one
 abbrev pub body_in : Scope → Text → Settings → Option Body
 body_in s kind no_settings = None
-body_in s kind (and_setting (of_group name) rest) = group_named s.groups name
+body_in s kind (and_setting (of_group name) rest) = body_named s.groups name
 body_in s kind (and_setting x rest) = body_in s kind rest
 body_in s kind (and_zone items nodes output rest) = Some (zone_body s kind items nodes output)
 

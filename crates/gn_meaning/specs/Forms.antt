@@ -1,4 +1,4 @@
--- Trees whose settings stand in nodes of their kinds, as they do in each tree that is read.
+-- Trees whose settings stand in nodes of their kinds, as they do in each tree that is of its form.
 use Rattle.std.specs.Prelude.{◌≡◌, List, [], ◌∷◌, codes}
 use Rattle.gn_kinds.specs.Row.{Text}
 use Rattle.gn_tree.specs.Trees.{Node, node, Settings, no_settings, and_setting, and_zone, Nodes, no_nodes, and_node, Group, Tree, of_group}

@@ -1,6 +1,6 @@
 ghost use Rattle.std.specs.Prelude.{◌≡◌};
 ghost use Rattle.gn_tree.specs.Seen.{nodes_of, settings_of};
-ghost use Rattle.gn_rules.specs.Measures as rule;
+ghost use Rattle.gn_rules.specs.Measures as measures;
 ghost use Rattle.gn_measure.specs.Capped.{capped};
 ghost use Rattle.gn_measure.specs.Measures.{known, height_of, count_of};
 
@@ -32,7 +32,7 @@ fn number_of(groups: &Known<'_, '_>, name: &str) -> u64
 /// The node's nesting height, saturating at 2^64 - 1.
 #[cycle(height)]
 pub(crate) fn height(groups: &Known<'_, '_>, node: &Node) -> u64
-    ensures { result ≡ capped (rule.height (known groups.now) node.now) }
+    ensures { result ≡ capped (measures.height (known groups.now) node.now) }
 {
     height_in(groups, &node.settings)
 }
@@ -50,7 +50,7 @@ fn height_of(groups: &Known<'_, '_>, setting: &Setting) -> u64
 
 #[cycle(height)]
 fn height_in(groups: &Known<'_, '_>, settings: &Vec<Setting>) -> u64
-    ensures { result ≡ capped (rule.height_in (known groups.now) (settings_of settings.now.items)) }
+    ensures { result ≡ capped (measures.height_in (known groups.now) (settings_of settings.now.items)) }
 {
     let mut highest: u64 = 0;
     for setting in settings {
@@ -62,7 +62,7 @@ fn height_in(groups: &Known<'_, '_>, settings: &Vec<Setting>) -> u64
 /// The nesting height of the highest node, saturating at 2^64 - 1.
 #[cycle(height)]
 pub(crate) fn heights(groups: &Known<'_, '_>, nodes: &Vec<Node>) -> u64
-    ensures { result ≡ capped (rule.heights (known groups.now) (nodes_of nodes.now.items)) }
+    ensures { result ≡ capped (measures.heights (known groups.now) (nodes_of nodes.now.items)) }
 {
     let mut highest: u64 = 0;
     for node in nodes {
@@ -73,7 +73,7 @@ pub(crate) fn heights(groups: &Known<'_, '_>, nodes: &Vec<Node>) -> u64
 
 #[cycle(count)]
 fn count(groups: &Known<'_, '_>, node: &Node) -> u64
-    ensures { result ≡ capped (rule.count (known groups.now) node.now) }
+    ensures { result ≡ capped (measures.count (known groups.now) node.now) }
 {
     count_in(groups, &node.settings).saturating_add(1)
 }
@@ -91,7 +91,7 @@ fn count_of(groups: &Known<'_, '_>, setting: &Setting) -> u64
 
 #[cycle(count)]
 fn count_in(groups: &Known<'_, '_>, settings: &Vec<Setting>) -> u64
-    ensures { result ≡ capped (rule.count_in (known groups.now) (settings_of settings.now.items)) }
+    ensures { result ≡ capped (measures.count_in (known groups.now) (settings_of settings.now.items)) }
 {
     let mut all: u64 = 0;
     for setting in settings {
@@ -103,7 +103,7 @@ fn count_in(groups: &Known<'_, '_>, settings: &Vec<Setting>) -> u64
 /// The number of nodes with groups unfolded, saturating at 2^64 - 1.
 #[cycle(count)]
 pub(crate) fn counts(groups: &Known<'_, '_>, nodes: &Vec<Node>) -> u64
-    ensures { result ≡ capped (rule.counts (known groups.now) (nodes_of nodes.now.items)) }
+    ensures { result ≡ capped (measures.counts (known groups.now) (nodes_of nodes.now.items)) }
 {
     let mut all: u64 = 0;
     for node in nodes {

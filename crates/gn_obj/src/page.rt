@@ -1,8 +1,12 @@
-ghost use Rattle.std.specs.Prelude.{◌≡◌, ◌≤◌, ◌+◌, ◌++◌, [], length};
+ghost use Rattle.std.specs.Prelude.{◌≡◌, ◌<◌, ◌≤◌, ◌+◌, ◌^◌, ◌++◌, [], length};
+ghost use Rattle.std.specs.Fmt.{decimal};
+ghost use Rattle.gn_decimal.specs.Decimal.{dec};
 ghost use Rattle.gn_io.specs.Outside.{stopped};
 ghost use Rattle.gn_obj.specs.Pages.{PageBytes, Writes, writer};
 
+use gn_decimal::{write_number, write_whole};
 use gn_io::{Put, Sink};
+use gn_value::Fx;
 use std::marker::Model;
 
 /// The room of a page, in bytes.
@@ -48,6 +52,7 @@ impl Page {
     }
 
     /// How many bytes are on the page.
+    #[inline(always)]
     fn len(&self) -> usize
         ensures count { result ≡ length self.now.waiting }
         ensures within { result ≤ 16384 }
@@ -78,6 +83,7 @@ impl Page {
     }
 
     /// Puts a text behind what is on the page.
+    #[inline(always)]
     pub(crate) fn append(&mut self, text: &[u8])
         requires { length self.old.waiting + length text.now ≤ 16384 }
         ensures { self.new ≡ record { waiting = self.old.waiting ++ text.now; sent = self.old.sent } }
@@ -86,9 +92,32 @@ impl Page {
         self.bytes[self.len..end].copy_from_slice(text);
         self.len = end;
     }
+
+    /// Puts the text of a number behind what is on the page.
+    #[inline(always)]
+    pub(crate) fn append_number(&mut self, value: Fx)
+        requires { length self.old.waiting + 24 ≤ 16384 }
+        ensures text { self.new ≡ record { waiting = self.old.waiting ++ dec value.0; sent = self.old.sent } }
+        ensures room { length self.new.waiting ≤ length self.old.waiting + 22 }
+    {
+        self.len = write_number(value, &mut self.bytes, self.len);
+    }
+
+    /// Puts the digits of a whole number behind what is on the page.
+    #[inline(always)]
+    pub(crate) fn append_whole(&mut self, number: u64)
+        requires small { number < 10 ^ 10 }
+        requires room { length self.old.waiting + 10 ≤ 16384 }
+        ensures text { self.new ≡ record { waiting = self.old.waiting ++ decimal number; sent = self.old.sent } }
+        ensures room { length self.new.waiting ≤ length self.old.waiting + 10 }
+    {
+        self.len = write_whole(number, &mut self.bytes, self.len);
+    }
 }
 
 /// Hands the page on, and takes all bytes off it.
+#[cold]
+#[inline(never)]
 pub(crate) fn flush<K: Sink>(out: &mut K, page: &mut Page) -> Result<(), Unwritten>
     ensures writes { Writes [] (writer (K.held out.old) (K.faults out.old) page.old) (writer (K.held out.new) (K.faults out.new) page.new) result }
     ensures empty { page.new.waiting ≡ [] }
@@ -107,6 +136,7 @@ pub(crate) fn flush<K: Sink>(out: &mut K, page: &mut Page) -> Result<(), Unwritt
 }
 
 /// Makes room for a piece of a line on the page.
+#[inline(always)]
 pub(crate) fn make_room<K: Sink>(out: &mut K, page: &mut Page) -> Result<(), Unwritten>
     ensures writes { Writes [] (writer (K.held out.old) (K.faults out.old) page.old) (writer (K.held out.new) (K.faults out.new) page.new) result }
     ensures room { length page.new.waiting + 128 ≤ 16384 }

@@ -16,33 +16,31 @@ use crate::page::{Page, Unwritten, flush, make_room};
 use gn_geom::{Geometry, Mesh};
 use gn_io::{Put, Sink};
 use gn_value::{Fx, V3};
-use itoa::Buffer;
 
 /// Puts a space and a number behind what is on the page.
+#[inline(always)]
 fn append_number(page: &mut Page, value: Fx)
     requires { length page.old.waiting + 25 ≤ 16384 }
     ensures text { page.new ≡ record { waiting = page.old.waiting ++ spaced (dec value.0); sent = page.old.sent } }
     ensures room { length page.new.waiting ≤ length page.old.waiting + 25 }
 {
-    let mut text = [0u8; 24];
-    let len = gn_decimal::print(value, &mut text);
     page.append(b" ");
-    page.append(&text[..len]);
+    page.append_number(value);
 }
 
 /// Puts a space and the number of a vertex, counted from 1, behind what is on the page.
+#[inline(always)]
 fn append_vertex(page: &mut Page, vertex: u32)
-    requires { length page.old.waiting + 41 ≤ 16384 }
+    requires { length page.old.waiting + 11 ≤ 16384 }
     ensures text { page.new ≡ record { waiting = page.old.waiting ++ vertex_word vertex; sent = page.old.sent } }
-    ensures room { length page.new.waiting ≤ length page.old.waiting + 41 }
+    ensures room { length page.new.waiting ≤ length page.old.waiting + 11 }
 {
-    let mut buffer = Buffer::new();
-    let text = buffer.format(u64::from(vertex) + 1).as_bytes();
     page.append(b" ");
-    page.append(text);
+    page.append_whole(u64::from(vertex) + 1);
 }
 
 /// Puts the line of a vertex behind what is on the page.
+#[inline(always)]
 fn append_vertex_line(page: &mut Page, point: V3)
     requires { length page.old.waiting + 128 ≤ 16384 }
     ensures { page.new ≡ record { waiting = page.old.waiting ++ vertex_line point; sent = page.old.sent } }
@@ -55,6 +53,7 @@ fn append_vertex_line(page: &mut Page, point: V3)
 }
 
 /// Puts the line of an edge behind what is on the page.
+#[inline(always)]
 fn append_edge_line(page: &mut Page, edge: (u32, u32))
     requires { length page.old.waiting + 128 ≤ 16384 }
     ensures { page.new ≡ record { waiting = page.old.waiting ++ edge_line (edge_of edge); sent = page.old.sent } }
@@ -66,6 +65,7 @@ fn append_edge_line(page: &mut Page, edge: (u32, u32))
 }
 
 /// Writes a short text.
+#[inline(always)]
 fn write_text<K: Sink>(out: &mut K, page: &mut Page, text: &[u8]) -> Result<(), Unwritten>
     requires { length text.now ≤ 128 }
     ensures { Writes text.now (writer (K.held out.old) (K.faults out.old) page.old) (writer (K.held out.new) (K.faults out.new) page.new) result }
@@ -79,6 +79,7 @@ fn write_text<K: Sink>(out: &mut K, page: &mut Page, text: &[u8]) -> Result<(), 
 }
 
 /// Writes a space and the number of a vertex.
+#[inline(always)]
 fn write_vertex<K: Sink>(out: &mut K, page: &mut Page, vertex: u32) -> Result<(), Unwritten>
     ensures { Writes (vertex_word vertex) (writer (K.held out.old) (K.faults out.old) page.old) (writer (K.held out.new) (K.faults out.new) page.new) result }
 {
@@ -91,6 +92,7 @@ fn write_vertex<K: Sink>(out: &mut K, page: &mut Page, vertex: u32) -> Result<()
 }
 
 /// Writes the line of a vertex.
+#[inline(always)]
 fn write_vertex_line<K: Sink>(out: &mut K, page: &mut Page, point: V3) -> Result<(), Unwritten>
     ensures { Writes (vertex_line point) (writer (K.held out.old) (K.faults out.old) page.old) (writer (K.held out.new) (K.faults out.new) page.new) result }
 {
@@ -103,6 +105,7 @@ fn write_vertex_line<K: Sink>(out: &mut K, page: &mut Page, point: V3) -> Result
 }
 
 /// Writes the line of an edge.
+#[inline(always)]
 fn write_edge_line<K: Sink>(out: &mut K, page: &mut Page, edge: (u32, u32)) -> Result<(), Unwritten>
     ensures { Writes (edge_line (edge_of edge)) (writer (K.held out.old) (K.faults out.old) page.old) (writer (K.held out.new) (K.faults out.new) page.new) result }
 {
@@ -128,6 +131,7 @@ fn write_points<K: Sink>(out: &mut K, page: &mut Page, points: &[V3]) -> Result<
 }
 
 /// Writes the line of an edge, if no face has it.
+#[inline(always)]
 fn write_loose_edge<K: Sink>(
     out: &mut K,
     page: &mut Page,
@@ -158,6 +162,7 @@ fn write_loose_edges<K: Sink>(out: &mut K, page: &mut Page, mesh: &Mesh) -> Resu
 }
 
 /// Writes spaces and the numbers of vertices.
+#[inline(always)]
 fn write_vertices<K: Sink>(out: &mut K, page: &mut Page, vertices: &[u32]) -> Result<(), Unwritten>
     ensures { Writes (flat_map vertex_word vertices.now) (writer (K.held out.old) (K.faults out.old) page.old) (writer (K.held out.new) (K.faults out.new) page.new) result }
 {
@@ -171,6 +176,7 @@ fn write_vertices<K: Sink>(out: &mut K, page: &mut Page, vertices: &[u32]) -> Re
 }
 
 /// Writes the line of a face.
+#[inline(always)]
 fn write_face<K: Sink>(out: &mut K, page: &mut Page, vertices: &[u32]) -> Result<(), Unwritten>
     ensures { Writes (face_text vertices.now) (writer (K.held out.old) (K.faults out.old) page.old) (writer (K.held out.new) (K.faults out.new) page.new) result }
 {
@@ -211,6 +217,7 @@ fn write_faces<K: Sink>(
 }
 
 /// Writes the line of a face by where its corners begin and end.
+#[inline(always)]
 fn write_corners<K: Sink>(
     out: &mut K,
     page: &mut Page,

@@ -3,7 +3,6 @@ ghost use Rattle.gn_tree.specs.Seen.{socket_of, tree_of};
 ghost use Rattle.gn_check.specs.Answers.{tree_in};
 ghost use Rattle.gn_check.specs.Nodes.{inputs_in};
 ghost use Rattle.gn_meaning.specs.Sites as sites;
-ghost use Rattle.gn_meaning.specs.Forms.{HasForm};
 ghost use Rattle.gn_meaning.specs.Reads.{kind_number, Run};
 ghost use Rattle.gn_meaning.specs.Demand.{output_read};
 ghost use Rattle.gn_plans.specs.Answers.{Answers};
@@ -335,7 +334,6 @@ fn own_entries(alloc: Global) -> Result<Vec<Socket>, Memory>
 ///
 /// `Memory` where there was no memory.
 pub fn find_plan(alloc: Global, tree: &GoodTree) -> Result<Option<Plan>, Memory>
-    requires { HasForm (tree_in tree.now) }
     ensures { IfOk result (Answers (tree_in tree.now)) }
 {
     let entries = own_entries(alloc)?;

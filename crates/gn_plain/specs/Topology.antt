@@ -59,19 +59,16 @@ edge_at edges k = edge_of (slice_index_or edges k (0, 0))
 abbrev pub IsJoined : List (ℕ × ℕ) → List Corner → Type 0
 IsJoined edges face = map (λ c. edge_at edges c.edge) face ≡ edges_around (vertices_of face)
 
-abbrev pub AllDiffer : {X : Type 0} → List X → Type 0
-AllDiffer xs = AllPairs (λ a b. a ≢ b) xs
-
 -- numbers are in range, an edge is there once with its lesser vertex first, a face has at least three corners at different vertices, and the edges of its corners go around it
 pub record IsValid (t : Topology) : Type 0 where
   pub lesser_first : All (λ e. e.0 < e.1) t.edges
   pub edges_within : All (λ e. e.1 < t.points) t.edges
-  pub edges_differ : AllDiffer t.edges
+  pub edges_differ : AllPairs (λ a b. a ≢ b) t.edges
   pub paired : length t.corner_points ≡ length t.corner_edges
   pub corner_points_within : All (λ v. v < t.points) t.corner_points
   pub corner_edges_within : All (λ k. k < length t.edges) t.corner_edges
   pub offsets : AreOffsets (length t.corner_points) t.faces
-  pub vertices_differ : All (λ f. AllDiffer (vertices_of f)) (faces_of t)
+  pub vertices_differ : All (λ f. AllPairs (λ a b. a ≢ b) (vertices_of f)) (faces_of t)
   pub joined : All (IsJoined t.edges) (faces_of t)
 
 -- each list has fewer than 2^32 members, so that numbers of 32 bits name them

@@ -4,4 +4,3 @@ pub mod Inputs
 pub mod Demanding
 pub mod Standing
 pub mod Planned
-pub mod Formed

@@ -1,9 +1,9 @@
 -- The parts that elements grow to are those of a mesh, which is the mesh of the elements.
-use Rattle.std.proofs.Common.{◌≡◌, ℕ, zero, suc, ◌+◌, ◌-◌, ◌<◌, ◌≤◌, Bool, true, false, ◌&&◌, nat_le, List, [], ◌∷◌, ◌++◌, length, map, flat_map, get_or, sum, refl, sym, ap, ◌∙◌, subst, arith, length-append, zero-add}
+use Rattle.std.proofs.Common.{◌≡◌, ◌≢◌, ℕ, zero, suc, ◌+◌, ◌-◌, ◌<◌, ◌≤◌, Bool, true, false, ◌&&◌, nat_le, AllPairs, List, [], ◌∷◌, ◌++◌, length, map, flat_map, get_or, sum, refl, sym, ap, ◌∙◌, subst, arith, length-append, zero-add}
 use Rattle.std.proofs.lemmas.List.Sums.{sum_by-cons}
 use Rattle.std.proofs.lemmas.Bool.Decides.{nat_tests}
 use Rattle.gn_plain.specs.Edges.{Edge, edges_around, first_seen}
-use Rattle.gn_plain.specs.Topology.{Topology, IsValid, IsNumbered, IsJoined, AllDiffer, RiseTo, edge_of, edge_at, vertices_of, faces_of, shape_of}
+use Rattle.gn_plain.specs.Topology.{Topology, IsValid, IsNumbered, IsJoined, RiseTo, edge_of, edge_at, vertices_of, faces_of, shape_of}
 use Rattle.gn_plain.proofs.EdgeLemmas.{first_seen-fold}
 use Rattle.gn_elements.specs.Read.{Element, points_of, corners, most}
 use Rattle.gn_elements.specs.Read as read
@@ -146,8 +146,8 @@ module _ (es : List Element) (keys : List (ℕ × ℕ)) (h : (grown es).edges �
   counted : length edges ≡ length keys
   counted = ap length seen ∙ length-mapped edge_of keys
 
-  differ_at : (vs : List ℕ) → GoodFace n vs → AllDiffer (vertices_of (corners edges vs))
-  differ_at vs g = subst (λ (us : List ℕ). AllDiffer us) (sym (vertices_again edges vs)) (all_from_pairs vs (pairs-all_differ vs g.1))
+  differ_at : (vs : List ℕ) → GoodFace n vs → AllPairs (λ a b. a ≢ b) (vertices_of (corners edges vs))
+  differ_at vs g = subst (λ (us : List ℕ). AllPairs (λ a b. a ≢ b) us) (sym (vertices_again edges vs)) (all_from_pairs vs (pairs-all_differ vs g.1))
 
   pub valid : IsValid (topology (grown es) keys)
   valid = record {
@@ -158,7 +158,7 @@ module _ (es : List Element) (keys : List (ℕ × ℕ)) (h : (grown es).edges �
     corner_points_within = all_from_each (λ v. v < length (grown es).points) (grown es).corner_points (rw (points, grow-corner_points none_yet es) (vertices_below n (faces_in es) good_all));
     corner_edges_within = all_from_each (λ k. k < length keys) (grown es).corner_edges (rw (numbers, ← counted) (numbers_below edges (faces_in es) there));
     offsets = rw (grow-faces none_yet es, grow-corner_points none_yet es) (refl, rw zero-add at (rises 0 n (faces_in es) good_all));
-    vertices_differ = rw faces (all_from_each (λ f. AllDiffer (vertices_of f)) (map (corners edges) (faces_in es)) (each-map (λ f. AllDiffer (vertices_of f)) (corners edges) (faces_in es) (each-more (GoodFace n) (λ vs. AllDiffer (vertices_of (corners edges vs))) differ_at (faces_in es) good_all)));
+    vertices_differ = rw faces (all_from_each (λ f. AllPairs (λ a b. a ≢ b) (vertices_of f)) (map (corners edges) (faces_in es)) (each-map (λ f. AllPairs (λ a b. a ≢ b) (vertices_of f)) (corners edges) (faces_in es) (each-more (GoodFace n) (λ vs. AllPairs (λ a b. a ≢ b) (vertices_of (corners edges vs))) differ_at (faces_in es) good_all)));
     joined = rw faces (all_from_each (IsJoined keys) (map (corners edges) (faces_in es)) (each-map (IsJoined keys) (corners edges) (faces_in es) (each-more (λ vs. Each (λ e. is_in edges e ≡ true) (edges_around vs)) (λ vs. IsJoined keys (corners edges vs)) (λ vs t. joined keys edges vs seen t) (faces_in es) there)));
   }
     where

@@ -1,6 +1,7 @@
 pub mod Trees
 pub mod NodeKinds
 pub mod Rising
+pub mod Form
 pub mod Coding
 pub mod Seen
 pub mod Smaller

@@ -4,6 +4,9 @@ use Rattle.std.specs.Prelude.{List, All, map}
 use Rattle.std.specs.Ordering.{nat_cmp}
 use Rattle.std.specs.Cmp.Lexicographic.{slice_cmp}
 use Rattle.std.specs.List.Sorted.{IsStrictlySortedBy}
+use Rattle.std.specs.Coded.{×_prop, Unit-prop}
+use Rattle.std.proofs.Props.{props}
+use Rattle.std.proofs.lemmas.Map.Keys.{IsStrictlySortedBy-prop}
 use Rattle.gn_tree.specs.Trees.{Named, Node, node, Settings, no_settings, and_setting, and_zone, Nodes, no_nodes, and_node, Group, Tree}
 
 abbrev pub NamesRise : List Named → Type 0
@@ -27,3 +30,23 @@ NamesRiseInGroup g = NamesRiseInNodes g.nodes × NamesRise g.output
 
 abbrev pub NamesRiseInTree : Tree → Type 0
 NamesRiseInTree t = All NamesRiseInGroup t.groups × NamesRiseInNodes t.nodes
+
+-- each of these is a fact, which can hold in one way alone
+NamesRise-prop : (xs : List Named) → IsProp (NamesRise xs)
+NamesRise-prop xs = IsStrictlySortedBy-prop (slice_cmp nat_cmp) (map (λ x. x.name) xs)
+
+mutual
+  NamesRiseAt-prop : (x : Node) → IsProp (NamesRiseAt x)
+  NamesRiseAt-prop (node id kind settings inputs) = ×_prop (NamesRise-prop inputs) (NamesRiseInSettings-prop settings)
+
+  NamesRiseInSettings-prop : (xs : Settings) → IsProp (NamesRiseInSettings xs)
+  NamesRiseInSettings-prop no_settings = Unit-prop
+  NamesRiseInSettings-prop (and_setting x rest) = NamesRiseInSettings-prop rest
+  NamesRiseInSettings-prop (and_zone items nodes output rest) = λ p q i. (NamesRiseInNodes-prop nodes p.0 q.0 i, NamesRise-prop output p.1 q.1 i, NamesRiseInSettings-prop rest p.2 q.2 i)
+
+  NamesRiseInNodes-prop : (xs : Nodes) → IsProp (NamesRiseInNodes xs)
+  NamesRiseInNodes-prop no_nodes = Unit-prop
+  NamesRiseInNodes-prop (and_node x xs) = ×_prop (NamesRiseAt-prop x) (NamesRiseInNodes-prop xs)
+
+pub NamesRiseInTree-prop : (t : Tree) → IsProp (NamesRiseInTree t)
+NamesRiseInTree-prop t = Prim.hlevel (props, NamesRise-prop, NamesRiseInNodes-prop)

@@ -2,7 +2,8 @@ use gn_kinds::SocketKind;
 use gn_value::{Place, Value};
 use std::marker::Model;
 
-/// A tree: its groups, its nodes and what it gives out.
+/// A tree: its groups, its nodes and what it gives out. Not each `Tree` is of its form; those that are
+/// read and those that are checked are.
 #[derive(Drop)]
 pub struct Tree {
     pub format: u32,

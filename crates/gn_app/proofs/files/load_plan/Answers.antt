@@ -1,13 +1,7 @@
 use Rattle.std.proofs.Common.{subst}
 use Rattle.gn_check.specs.Answers.{tree_in}
 use Rattle.gn_plans.specs.Answers.{Answers}
-use Rattle.gn_plan_laws.proofs.Formed.{tree_form}
 use Rattle.gn_app.proofs.files.load_plan.Goals as goal
-
-pub find_plan-requires : goal.find_plan-requires
-find_plan-requires g c =
-    let tree = c.in-Ok.ensures.reads.1 in
-    tree_form tree.0 (tree_in c.in-Ok.loaded.tree) tree.2
 
 pub returns-in-Ok-None-clause-reads : goal.returns-in-Ok-None-clause-reads
 returns-in-Ok-None-clause-reads g c =

@@ -6,7 +6,7 @@ use Rattle.gn_app.proofs.files.prepare.Goals as goal
 
 pub returns-in-Err-clause-prepares : goal.returns-in-Err-clause-prepares
 returns-in-Err-clause-prepares g c =
-    refused_plan c.args.tree.now c.args.input.now _ _ (ending_of c.in-Err.ending) c.in-Err.ensures.reads
+    refused_plan c.args.tree.now c.args.input.now _ _ (ending_of c.in-Err.refusal) c.in-Err.ensures.reads
 
 pub returns-then-eq-clause-prepares : goal.returns-then-eq-clause-prepares
 returns-then-eq-clause-prepares g c =

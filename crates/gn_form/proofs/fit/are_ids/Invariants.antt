@@ -1,7 +1,7 @@
 use Rattle.std.proofs.Common.{◌≡◌}
 use Rattle.serde_json.specs.View.{members_view}
 use Rattle.gn_form.specs.Form as is
-use Rattle.gn_form.specs.Text.{is_id}
+use Rattle.gn_kinds.specs.Text.{is_id}
 use Rattle.gn_form.proofs.fit.are_ids.Given as goal
 
 abbrev pub invariant-loop-key : goal.invariant-loop-key

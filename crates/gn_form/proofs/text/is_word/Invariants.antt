@@ -1,5 +1,5 @@
 use Rattle.std.proofs.Common.{◌≡◌, drop, map}
-use Rattle.gn_form.specs.Text as is
+use Rattle.gn_kinds.specs.Text as is
 use Rattle.gn_form.proofs.text.is_word.Given as goal
 
 abbrev pub invariant-loop-word : goal.invariant-loop-word

@@ -1,7 +1,7 @@
 use Rattle.std.proofs.Common.{◌≡◌, ◌+◌, ◌*◌, ◌<◌, ◌^◌, drop}
 use Rattle.gn_tree.specs.Trees.{node_size, settings_size, nodes_size, no_settings}
 use Rattle.gn_tree.specs.Seen.{nodes_of, settings_of, setting_then}
-use Rattle.gn_rules.specs.Measures as rule
+use Rattle.gn_rules.specs.Measures as measures
 use Rattle.gn_measure.specs.Capped.{capped}
 use Rattle.gn_measure.specs.Measures.{known}
 use Rattle.gn_measure.proofs.measure.+count.Given as goal
@@ -9,12 +9,12 @@ use Rattle.gn_measure.proofs.measure.+count.Given as goal
 abbrev pub invariant-count_in-loop-setting : goal.invariant-count_in-loop-setting
 invariant-count_in-loop-setting l =
     (l.all < 2 ^ 64)
-    × (capped (l.all + rule.count_in (known l.groups) (settings_of (drop l.setting-index l.setting-items))) ≡ capped (rule.count_in (known l.groups) (settings_of l.setting-items)))
+    × (capped (l.all + measures.count_in (known l.groups) (settings_of (drop l.setting-index l.setting-items))) ≡ capped (measures.count_in (known l.groups) (settings_of l.setting-items)))
 
 abbrev pub invariant-counts-loop-node : goal.invariant-counts-loop-node
 invariant-counts-loop-node l =
     (l.all < 2 ^ 64)
-    × (capped (l.all + rule.counts (known l.groups) (nodes_of (drop l.node-index l.node-items))) ≡ capped (rule.counts (known l.groups) (nodes_of l.node-items)))
+    × (capped (l.all + measures.counts (known l.groups) (nodes_of (drop l.node-index l.node-items))) ≡ capped (measures.counts (known l.groups) (nodes_of l.node-items)))
 
 abbrev pub decreases-count : goal.decreases-count
 decreases-count l = 4 * node_size l.node.now

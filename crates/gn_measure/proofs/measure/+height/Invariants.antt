@@ -1,18 +1,18 @@
 use Rattle.std.proofs.Common.{◌≡◌, ◌+◌, ◌*◌, max, drop}
 use Rattle.gn_tree.specs.Trees.{node_size, settings_size, nodes_size, no_settings}
 use Rattle.gn_tree.specs.Seen.{nodes_of, settings_of, setting_then}
-use Rattle.gn_rules.specs.Measures as rule
+use Rattle.gn_rules.specs.Measures as measures
 use Rattle.gn_measure.specs.Capped.{capped}
 use Rattle.gn_measure.specs.Measures.{known}
 use Rattle.gn_measure.proofs.measure.+height.Given as goal
 
 abbrev pub invariant-height_in-loop-setting : goal.invariant-height_in-loop-setting
 invariant-height_in-loop-setting l =
-    max l.highest (capped (rule.height_in (known l.groups) (settings_of (drop l.setting-index l.setting-items)))) ≡ capped (rule.height_in (known l.groups) (settings_of l.setting-items))
+    max l.highest (capped (measures.height_in (known l.groups) (settings_of (drop l.setting-index l.setting-items)))) ≡ capped (measures.height_in (known l.groups) (settings_of l.setting-items))
 
 abbrev pub invariant-heights-loop-node : goal.invariant-heights-loop-node
 invariant-heights-loop-node l =
-    max l.highest (capped (rule.heights (known l.groups) (nodes_of (drop l.node-index l.node-items)))) ≡ capped (rule.heights (known l.groups) (nodes_of l.node-items))
+    max l.highest (capped (measures.heights (known l.groups) (nodes_of (drop l.node-index l.node-items)))) ≡ capped (measures.heights (known l.groups) (nodes_of l.node-items))
 
 abbrev pub decreases-height : goal.decreases-height
 decreases-height l = 4 * node_size l.node.now
