@@ -1,9 +1,9 @@
 -- Going back from what is read to where its value comes from.
-use Rattle.std.proofs.Common.{◌≡◌, ◌≤◌, ◌<◌, ◌+◌, ◌++◌, ℕ, zero, suc, List, [], Option, Some, None, refl, sym, ◌∙◌, ap, subst, append_assoc, arith}
-use Rattle.std.specs.Prelude.{option_map, is_some, Bool, true, false, ◌↔◌, if◌then◌else◌}
+use Rattle.std.proofs.Common.{◌≡◌, ◌≤◌, ◌<◌, ◌+◌, ◌++◌, ℕ, zero, suc, List, Option, Some, None, refl, sym, ◌∙◌, ap, subst, append_assoc, arith}
+use Rattle.std.specs.Prelude.{option_map, is_some, Bool, true, false, if◌then◌else◌}
 use Rattle.gn_tree.specs.Trees.{Tree}
-use Rattle.gn_meaning.specs.Sites.{Site, Read, plain_read}
-use Rattle.gn_meaning.specs.Origins.{Origins, read_origin, next_origin, origin_within, IsReadFrom}
+use Rattle.gn_meaning.specs.Sites.{Site, Read}
+use Rattle.gn_meaning.specs.Origins.{read_origin, origin_within, IsReadFrom}
 use Rattle.gn_origin.specs.Walking.{Leads, IsOrigin, AreSame}
 use Rattle.gn_origin.specs.Reading.{IsElsewhere}
 

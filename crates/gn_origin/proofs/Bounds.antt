@@ -1,6 +1,6 @@
 -- How many steps the walks of a search for a plan take at most.
-use Rattle.std.proofs.Common.{◌≡◌, ◌≤◌, ◌<◌, ◌+◌, ◌++◌, ◌⊎◌, inl, inr, ℕ, zero, suc, pos, List, [], ◌∷◌, map, length, Option, Some, None, codes, refl, sym, ◌∙◌, ap, subst, arith}
-use Rattle.std.specs.Prelude.{is_some, true, option_map}
+use Rattle.std.proofs.Common.{◌≡◌, ◌≤◌, ◌<◌, ◌+◌, ◌++◌, inl, inr, ℕ, suc, pos, List, [], ◌∷◌, map, Some, codes, refl, sym, ◌∙◌, ap, subst, arith}
+use Rattle.std.specs.Prelude.{is_some, option_map}
 use Rattle.gn_value.specs.declared.value.Value.TheVariants.{Int as int}
 use Rattle.gn_kinds.specs.declared.row.SocketKind.TheVariants.{Truth, Vector, Geometry}
 use Rattle.gn_kinds.specs.Row.{Text}

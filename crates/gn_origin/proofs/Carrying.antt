@@ -1,5 +1,5 @@
 -- The constants of a Set Position, by where the walks from its inputs end.
-use Rattle.std.proofs.Common.{◌≡◌, ◌+◌, ◌≤◌, ◌⊎◌, inl, inr, ℕ, Bool, List, [], ◌∷◌, map, length, Option, Some, None, refl, sym, ◌∙◌, ap, subst}
+use Rattle.std.proofs.Common.{◌≡◌, ◌+◌, ◌≤◌, ◌⊎◌, inl, inr, ℕ, Bool, List, [], ◌∷◌, map, Option, Some, None, refl, sym, ◌∙◌, ap, subst}
 use Rattle.std.specs.Prelude.{option_map, option_and_then}
 use Rattle.gn_value.specs.declared.vector.V3.{V3}
 use Rattle.gn_value.specs.declared.value.Value.{Value}
@@ -17,7 +17,6 @@ use Rattle.gn_origin.specs.declared.read.Site.TheVariants as site
 use Rattle.gn_origin.specs.declared.read.Constant.TheVariants as constant
 use Rattle.gn_origin.specs.Frames.{way_of, site_of}
 use Rattle.gn_origin.specs.Reading.{IsElsewhere}
-use Rattle.gn_origin.specs.Walking.{read_by}
 use Rattle.gn_plans.specs.Plans.{conversion_limit, Carries, MovesTo}
 use Rattle.gn_origin.specs.Moves.{EndsAt, carried_at, carried_by, truth_in, vector_in, own_position, position_at, position_by, ConstantsAre, Limits}
 use Rattle.gn_origin.proofs.Ending.{ends_from, ends_only, carries, carries_only}

@@ -1,5 +1,5 @@
 -- What the end of a walk says of what was read.
-use Rattle.std.proofs.Common.{◌≡◌, ◌++◌, ℕ, zero, suc, List, [], ◌∷◌, map, length, Option, Some, None, refl, sym, ◌∙◌, ap, subst}
+use Rattle.std.proofs.Common.{◌≡◌, ℕ, List, map, length, Option, Some, None, refl, sym, ◌∙◌, ap, subst}
 use Rattle.gn_value.specs.declared.value.Value.{Value}
 use Rattle.gn_tree.specs.Trees.{Tree}
 use Rattle.gn_meaning.specs.Sites as sites

@@ -1,16 +1,15 @@
 -- Groups by their names, and their lists of nodes.
-use Rattle.std.proofs.Common.{◌≡◌, ◌<◌, ◌+◌, ℕ, zero, suc, Bool, true, false, cond, List, [], ◌∷◌, length, map, get_or, Option, Some, None, codes, refl, sym, ◌∙◌, ap, subst, arith}
+use Rattle.std.proofs.Common.{◌≡◌, ◌<◌, ◌+◌, ℕ, zero, suc, Bool, true, false, cond, List, [], ◌∷◌, length, map, get_or, Some, refl, sym, ◌∙◌, ap, subst, arith}
 use Rattle.std.specs.Prelude.{bytes_eq, slice_get, option_map}
 use Rattle.std.specs.List.{position_from}
 use Rattle.std.proofs.lemmas.Option.{slice_get-map}
 use Rattle.gn_kinds.specs.Row.{Text}
 use Rattle.gn_names.specs.First.{first_of}
-use Rattle.gn_tree.specs.Trees.{Group, Tree}
-use Rattle.gn_tree.specs.Seen.{group_of, nodes_of, socket_of, tree_of}
+use Rattle.gn_tree.specs.Trees.{Group}
+use Rattle.gn_tree.specs.Seen.{group_of, nodes_of, socket_of}
 use Rattle.gn_tree.specs.declared.tree.Group.{Group as CodeGroup}
 use Rattle.gn_tree.specs.Trees.{Node as CodeNode}
-use Rattle.gn_rules.specs.Sockets.{group_names, one_of, ids}
-use Rattle.gn_meaning.specs.Bodies.{tree_body}
+use Rattle.gn_rules.specs.Sockets.{one_of, ids}
 use Rattle.gn_meaning.specs.Forms.{NodesHaveForm, GroupsHaveForm, HasForm}
 use Rattle.gn_origin.specs.declared.groups.GroupList.{GroupList}
 use Rattle.gn_origin.specs.declared.list.List.{List as CodeList}

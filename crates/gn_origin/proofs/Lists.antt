@@ -1,19 +1,18 @@
 -- What the look-ups of a list of nodes say of what is read there.
-use Rattle.std.proofs.Common.{◌≡◌, ◌++◌, ℕ, zero, suc, List, [], ◌∷◌, map, Option, Some, None, codes, refl, sym, ◌∙◌, ap, subst, arith}
+use Rattle.std.proofs.Common.{◌≡◌, ℕ, [], ◌∷◌, map, Option, Some, None, codes, sym, ◌∙◌, ap, subst}
 use Rattle.std.specs.Prelude.{bytes_eq, true, false, slice_get, option_map}
 use Rattle.gn_kinds.specs.declared.row.SocketKind.{SocketKind}
 use Rattle.gn_kinds.specs.declared.row.SocketKind.TheVariants.{Geometry}
 use Rattle.gn_kinds.specs.Row.{Text}
 use Rattle.gn_names.specs.First.{first_of}
-use Rattle.gn_tree.specs.Trees.{Node, Link, Socket, Tree}
-use Rattle.gn_tree.specs.Seen.{nodes_of, socket_of, group_of, tree_of}
+use Rattle.gn_tree.specs.Trees.{Node, Link, Tree}
+use Rattle.gn_tree.specs.Seen.{nodes_of, socket_of}
 use Rattle.gn_tree.specs.declared.tree.Socket.{Socket as CodeSocket}
 use Rattle.gn_rules.specs.Sockets.{one, one_of, declared, outputs_of, node_at, ids}
-use Rattle.gn_rules.specs.Scopes.{Scope}
 use Rattle.gn_rules.specs.Things.{socket_names}
 use Rattle.gn_check.proofs.Grouping.{node_at_seen}
 use Rattle.gn_meaning.specs.Sites.{at_output, at_input, nowhere, Read, plain_read}
-use Rattle.gn_meaning.specs.Reads.{passed, number_in, read_from, link_read, part_in, part_at}
+use Rattle.gn_meaning.specs.Reads.{passed, number_in, read_from, link_read, part_in}
 use Rattle.gn_meaning.specs.Forms.{NodeHasForm}
 use Rattle.gn_meaning.proofs.Parts.{node_form}
 use Rattle.gn_origin.specs.declared.list.List.{List as CodeList}
@@ -26,8 +25,8 @@ use Rattle.gn_origin.specs.declared.walk.Frame.{Frame}
 use Rattle.gn_origin.specs.Constants.{kinds_of}
 use Rattle.gn_origin.specs.Looking.{IsFound}
 use Rattle.gn_origin.specs.Nodes.{group_in, IsPart}
-use Rattle.gn_origin.specs.Frames.{Frames, way_of, entries_of, site_of, Opens, IsMove, IsThere}
-use Rattle.gn_origin.specs.Reading.{scope_of, tree_by, IsAt, IsElsewhere, IsRead, read_of, node_read}
+use Rattle.gn_origin.specs.Frames.{Frames, way_of, Opens, IsMove}
+use Rattle.gn_origin.specs.Reading.{scope_of, tree_by, IsAt, IsElsewhere, IsRead, node_read}
 use Rattle.gn_origin.proofs.Looking.{read_at_socket, read_at_none, entry_link, node_link, loose_link}
 use Rattle.gn_origin.proofs.Reading.{outputs_seen, move_outputs, group_read, no_group_read, move_read, no_move_read, nothing_read, part_there, other_node_read}
 use Rattle.gn_origin.specs.declared.groups.GroupList.{GroupList}

@@ -1,18 +1,17 @@
 -- Sockets and nodes that are looked up by their names.
-use Rattle.std.proofs.Common.{◌≡◌, ℕ, List, [], ◌∷◌, map, length, get_or, Option, Some, None, codes, refl, sym, ◌∙◌, ap, subst, arith}
-use Rattle.std.specs.Prelude.{bytes_eq, true, false, slice_get, option_map, option_and_then}
+use Rattle.std.proofs.Common.{◌≡◌, ℕ, List, [], ◌∷◌, map, get_or, Some, None, codes, refl, sym, ◌∙◌, ap}
+use Rattle.std.specs.Prelude.{bytes_eq, true, false, slice_get, option_map}
 use Rattle.std.proofs.lemmas.Option.{slice_get-get_or}
 use Rattle.gn_kinds.specs.declared.row.SocketKind.{SocketKind}
 use Rattle.gn_kinds.specs.Row.{Text}
 use Rattle.gn_names.specs.First.{first_of}
-use Rattle.gn_tree.specs.Trees.{Socket, Link, Node, Nodes}
-use Rattle.gn_rules.specs.declared.shape.Shape.{Shape}
-use Rattle.gn_rules.specs.Sockets.{Declared, single, one_of, declared, outputs_of, ids, node_at, node_named}
-use Rattle.gn_rules.specs.Scopes.{Scope, source}
+use Rattle.gn_tree.specs.Trees.{Socket, Link, Node}
+use Rattle.gn_rules.specs.Sockets.{single, one_of, declared, ids, node_at}
+use Rattle.gn_rules.specs.Scopes.{Scope}
 use Rattle.gn_rules.specs.Things.{socket_names}
 use Rattle.gn_check.proofs.Finding.{found_by_number, not_found}
-use Rattle.gn_meaning.specs.Sites.{Way, Site, at_output, at_input, nowhere, Read, plain_read}
-use Rattle.gn_meaning.specs.Reads.{passed, number_in, link_site, read_from, link_read}
+use Rattle.gn_meaning.specs.Sites.{Way, Site, at_input, nowhere, plain_read}
+use Rattle.gn_meaning.specs.Reads.{passed, number_in, read_from, link_read}
 use Rattle.gn_origin.specs.Reading.{node_read}
 
 names_of : (xs : List Socket) → map (λ d. d.name) (map one_of xs) ≡ socket_names xs

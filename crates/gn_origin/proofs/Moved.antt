@@ -1,13 +1,11 @@
 -- What a Set Position that is run moves, by what its inputs read.
-use Rattle.std.proofs.Common.{◌≡◌, ◌==◌, ◌<◌, ◌∷◌, ℕ, zero, suc, List, [], map, length, Option, Some, None, true, false, inl, inr, codes, refl, sym, ◌∙◌, ap, subst, arith}
+use Rattle.std.proofs.Common.{◌≡◌, ◌==◌, ◌∷◌, ℕ, zero, suc, List, [], map, length, Option, Some, None, true, false, inl, inr, codes, refl, sym, ◌∙◌, ap, subst, arith}
 use Rattle.std.proofs.lemmas.Bool.Decides.{eqb_tells}
 use Rattle.std.specs.Prelude.{slice_get}
-use Rattle.gn_value.specs.declared.vector.V3.{V3}
 use Rattle.gn_value.specs.declared.value.Value.TheVariants.{Truth as truth}
 use Rattle.gn_kinds.specs.declared.row.DefaultValue.{DefaultValue}
 use Rattle.gn_kinds.specs.declared.row.DefaultValue.TheVariants.{Zero, Constant as Written, Position}
 use Rattle.gn_kinds.specs.Table.{row_of_kind, table, values, functions, elsewhere, attributes, geometry_kinds, instance_kinds, groups}
-use Rattle.gn_kinds.specs.Row.{Text}
 use Rattle.gn_tree.specs.Trees.{Node, Tree}
 use Rattle.gn_tree.specs.Seen.{socket_of}
 use Rattle.gn_tree.specs.declared.tree.Socket.{Socket as CodeSocket}
@@ -18,8 +16,8 @@ use Rattle.gn_meaning.specs.Sites as sites
 use Rattle.gn_meaning.specs.Sites.{Way, the_tree, into, plain_step, at_output, at_input, at_constant, default_at, Read, plain_read}
 use Rattle.gn_meaning.specs.Bodies as meant
 use Rattle.gn_meaning.specs.Bodies.{Body, body_at}
-use Rattle.gn_meaning.specs.Reads.{default_of, kind_number, node_reads, reads_of, read_at, Run, a_node, part_at}
-use Rattle.gn_meaning.specs.Origins.{Origins, read_origin, next_origin, IsReadFrom}
+use Rattle.gn_meaning.specs.Reads.{default_of, kind_number, node_reads, reads_of, read_at, Run, a_node}
+use Rattle.gn_meaning.specs.Origins.{IsReadFrom}
 use Rattle.gn_meaning.specs.Forms.{HasForm}
 use Rattle.gn_meaning.proofs.Inputs.{InputsReached}
 use Rattle.gn_meaning.proofs.Opened.{at_way}
@@ -31,13 +29,13 @@ use Rattle.gn_origin.specs.declared.read.Site.{Site}
 use Rattle.gn_origin.specs.declared.read.Site.TheVariants as site
 use Rattle.gn_origin.specs.declared.read.Constant.TheVariants as constant
 use Rattle.gn_origin.specs.declared.walk.Walk.{Walk}
-use Rattle.gn_origin.specs.Frames.{Frames, way_of, site_of, entries_of, AreOpen, IsMove, IsThere}
+use Rattle.gn_origin.specs.Frames.{Frames, way_of, site_of, AreOpen, IsThere}
 use Rattle.gn_origin.specs.Looking.{own_sockets}
-use Rattle.gn_origin.specs.Moves.{EndsAt, AreRead, NamesRead, IsMoveOf, input_at, HasConstants, ConstantsAre, MovesAs}
-use Rattle.gn_plans.specs.Plans.{ReadsInput, Moves}
+use Rattle.gn_origin.specs.Moves.{EndsAt, AreRead, NamesRead, IsMoveOf, input_at, ConstantsAre, MovesAs}
+use Rattle.gn_plans.specs.Plans.{ReadsInput}
 use Rattle.gn_origin.specs.Reading as by_list
 use Rattle.gn_origin.specs.Reading.{IsAt, IsRead, named_read}
-use Rattle.gn_origin.specs.Walking.{tree_by, read_by, IsOrigin}
+use Rattle.gn_origin.specs.Walking.{IsOrigin}
 use Rattle.gn_origin.proofs.Bounds.{all_single, move_inputs, move_sockets, node_reads_by}
 use Rattle.gn_origin.proofs.Ending.{ends_from, ends_only}
 use Rattle.gn_origin.proofs.Singles.{default_in, read_of_socket}

@@ -1,5 +1,5 @@
 -- What a step of a walk has when it has gone on.
-use Rattle.std.proofs.Common.{◌≡◌, ◌++◌, ℕ, List, [], ◌∷◌, map, Option, Some, None, Result, Ok, Err, IfOk, refl, sym, ◌∙◌, ap, subst}
+use Rattle.std.proofs.Common.{◌≡◌, ◌++◌, ℕ, List, ◌∷◌, map, Option, Some, None, Result, Ok, Err, IfOk, sym, ◌∙◌, ap, subst}
 use Rattle.gn_tree.specs.Seen.{tree_of, socket_of}
 use Rattle.gn_tree.specs.Trees.{Named}
 use Rattle.gn_tree.specs.declared.tree.Socket.{Socket as CodeSocket}
@@ -20,7 +20,6 @@ use Rattle.gn_meaning.specs.Sites.{Read}
 use Rattle.gn_origin.specs.declared.read.Read.{Read as CodeRead}
 use Rattle.gn_origin.specs.declared.walk.Walk.{Walk}
 use Rattle.gn_origin.specs.declared.walk.Progress.{Progress}
-use Rattle.gn_origin.specs.declared.walk.Progress.TheVariants.{Moved, Arrived, Lost}
 use Rattle.gn_origin.specs.Constants.{kinds_of}
 use Rattle.gn_origin.specs.Nodes.{HasGroups, group_in}
 use Rattle.gn_origin.specs.Frames.{Frames, way_of, site_of, AreOpen, IsThere}

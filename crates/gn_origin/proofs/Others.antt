@@ -1,5 +1,5 @@
 -- Nodes that are neither a group node nor a Set Position that is run.
-use Rattle.std.proofs.Common.{◌≡◌, ℕ, Some, None, codes, refl, sym, ◌∙◌, ap, subst}
+use Rattle.std.proofs.Common.{◌≡◌, ℕ, Some, None, codes, sym, ◌∙◌, ap, subst}
 use Rattle.std.specs.Prelude.{bytes_eq, true, false}
 use Rattle.std.proofs.lemmas.Slice.Eq.{bytes_eq-Decides}
 use Rattle.gn_kinds.specs.Row.{Text}

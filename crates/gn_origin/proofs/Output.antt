@@ -1,5 +1,5 @@
 -- What the output of a tree reads, and where a walk from a read ends.
-use Rattle.std.proofs.Common.{◌≡◌, ℕ, List, [], map, Option, Some, None, codes, refl, sym, ◌∙◌, ap, subst}
+use Rattle.std.proofs.Common.{◌≡◌, [], map, Option, Some, None, codes, refl, sym, ◌∙◌, ap, subst}
 use Rattle.gn_kinds.specs.declared.row.SocketKind.TheVariants.{Geometry}
 use Rattle.gn_tree.specs.Trees.{Tree, Input}
 use Rattle.gn_tree.specs.Seen.{tree_of}

@@ -1,27 +1,19 @@
 -- What a node is, by its settings one by one, and what its sockets are.
 use Rattle.std.proofs.lemmas.List.{drop_more}
-use Rattle.std.proofs.Common.{◌≡◌, ◌<◌, ◌+◌, drop, get_or, length, ℕ, zero, suc, List, [], ◌∷◌, ◌++◌, map, Option, Some, None, codes, Global, refl, sym, ◌∙◌, ap, subst, arith}
-use Rattle.std.specs.Prelude.{String, bytes_eq, true, false, Bool, slice_get, option_map, option_and_then}
-use Rattle.gn_kinds.specs.declared.row.SocketKind.TheVariants.{Truth, Vector, Geometry}
+use Rattle.std.proofs.Common.{◌≡◌, ◌<◌, ◌+◌, drop, get_or, length, ℕ, List, map, Option, Some, None, Global, refl, sym, ◌∙◌, ap, subst}
+use Rattle.std.specs.Prelude.{String}
 use Rattle.gn_kinds.specs.Row.{Text}
-use Rattle.gn_kinds.specs.Table.{row_of_kind, table, values, functions, elsewhere, attributes, geometry_kinds, instance_kinds, groups}
-use Rattle.gn_names.specs.First.{first_of}
-use Rattle.gn_tree.specs.Trees.{Node, node, Nodes, no_nodes, and_node, Settings, no_settings, and_setting, and_zone, Setting, Socket, Named, Group, Tree, of_kind, op, place, clamp, a_name, file, value, of_group}
+use Rattle.gn_tree.specs.Trees.{Settings, Socket, Group}
 use Rattle.gn_tree.specs.Seen.{setting_then, settings_of, socket_of, nodes_of, named_of}
 use Rattle.gn_tree.specs.declared.tree.Setting.{Setting as CodeSetting}
 use Rattle.gn_tree.specs.declared.tree.Setting.TheVariants as s
-use Rattle.gn_rules.specs.Sockets.{Declared, one, one_of, chosen, further, group_in, items_in, inputs_of, outputs_of, inputs_of_kind, outputs_of_kind, input_of_row, output_of_row, group_names}
+use Rattle.gn_rules.specs.Sockets.{one, further, group_in, items_in}
 use Rattle.gn_rules.specs.Scopes.{Scope}
-use Rattle.gn_meaning.specs.Bodies.{Body, group_body, zone_body, body_in}
-use Rattle.gn_meaning.specs.Forms.{SettingsHaveForm, NodeHasForm}
-use Rattle.gn_meaning.specs.Sites.{Way}
-use Rattle.gn_meaning.specs.Reads.{part_in}
-use Rattle.gn_check.specs.Nodes.{kind_in, settings_in}
-use Rattle.gn_origin.specs.declared.groups.GroupList.{GroupList}
+use Rattle.gn_meaning.specs.Bodies.{zone_body, body_in}
+use Rattle.gn_meaning.specs.Forms.{SettingsHaveForm}
 use Rattle.gn_origin.specs.declared.list.Inside.{Inside}
 use Rattle.gn_origin.specs.declared.list.Inside.TheVariants as inside
-use Rattle.gn_origin.specs.Nodes.{group_in as the_group, IsGroup, Holds, IsOther}
-use denote.Ref.{Bor}
+use Rattle.gn_origin.specs.Nodes.{Holds}
 use Rattle.gn_tree.specs.declared.tree.Zone.{Zone}
 
 -- ---- settings one by one

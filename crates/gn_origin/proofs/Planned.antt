@@ -1,7 +1,7 @@
 -- The plan of a tree, by where the walk from its output ended.
 use Rattle.std.proofs.Common.{◌≡◌, ◌==◌, ℕ, List, [], ◌∷◌, map, length, Option, Some, None, true, false, refl, sym, ◌∙◌, ap, subst}
 use Rattle.gn_kinds.specs.declared.row.SocketKind.{SocketKind}
-use Rattle.gn_tree.specs.Trees.{Node, Tree}
+use Rattle.gn_tree.specs.Trees.{Tree}
 use Rattle.gn_tree.specs.declared.tree.Socket.{Socket as CodeSocket}
 use Rattle.gn_tree.specs.declared.tree.Node.{Node as CodeNode}
 use Rattle.gn_meaning.specs.Sites as sites
@@ -9,22 +9,19 @@ use Rattle.gn_meaning.specs.Sites.{Way, the_tree, into, plain_step, at_output, a
 use Rattle.gn_meaning.specs.Reads.{kind_number, Run, a_node, part_at}
 use Rattle.gn_meaning.specs.Demand.{output_read}
 use Rattle.gn_meaning.specs.Origins.{IsReadFrom}
-use Rattle.gn_meaning.proofs.Options.{some_same}
 use Rattle.gn_plans.specs.declared.plans.Plan.{Plan as CodePlan}
 use Rattle.gn_origin.specs.declared.read.Constant.{Constant}
 use Rattle.gn_origin.specs.declared.read.Constant.TheVariants as constant
-use Rattle.gn_origin.specs.declared.read.Site.{Site}
 use Rattle.gn_origin.specs.declared.read.Site.TheVariants as site
 use Rattle.gn_origin.specs.declared.walk.Frame.{Frame}
 use Rattle.gn_origin.specs.declared.walk.Walk.{Walk}
-use Rattle.gn_plans.specs.Answers.{plan_of, Answers}
-use Rattle.gn_origin.specs.Constants.{constant_of}
-use Rattle.gn_origin.specs.Frames.{way_of, site_of, AreOpen, IsMove, IsThere}
+use Rattle.gn_plans.specs.Answers.{Answers}
+use Rattle.gn_origin.specs.Frames.{way_of, site_of, IsMove, IsThere}
 use Rattle.gn_origin.specs.Moves.{EndsAt, MovesAs, constant_plan, input_at}
 use Rattle.gn_plans.specs.Plans.{the_input, Moves, IsPlan, HasNoPlan, gives_nothing, gives_input, gives_moved}
-use Rattle.gn_origin.specs.Walking.{read_by, IsOrigin}
+use Rattle.gn_origin.specs.Walking.{IsOrigin}
 use Rattle.gn_origin.proofs.Ending.{ends_from, ends_only}
-use Rattle.gn_origin.proofs.Moved.{none_left, input_from, ways_open, site_there}
+use Rattle.gn_origin.proofs.Moved.{none_left, input_from, site_there}
 use Rattle.gn_origin.proofs.Steps.{move_part}
 use Rattle.gn_origin.proofs.Ways.{goes_in}
 use denote.Ref.{Bor}

@@ -1,21 +1,20 @@
 -- What is read in a list of nodes, and what of it comes from elsewhere.
-use Rattle.std.proofs.Common.{◌≡◌, ◌++◌, ℕ, zero, suc, List, [], ◌∷◌, map, Option, Some, None, codes, refl, sym, ◌∙◌, ap, subst, arith}
-use Rattle.std.specs.Prelude.{bytes_eq, true, false, Bool, slice_get, option_map, option_and_then}
+use Rattle.std.proofs.Common.{◌≡◌, ◌++◌, ℕ, zero, suc, List, [], ◌∷◌, map, Option, Some, None, codes, refl, sym, ◌∙◌, ap, subst}
+use Rattle.std.specs.Prelude.{bytes_eq, true, false, slice_get, option_map, option_and_then}
 use Rattle.gn_kinds.specs.declared.row.SocketKind.{SocketKind}
 use Rattle.gn_kinds.specs.declared.row.SocketKind.TheVariants.{Geometry}
 use Rattle.gn_kinds.specs.Row.{Text}
 use Rattle.gn_kinds.specs.Table.{row_of_kind, table, values, functions, elsewhere, attributes, geometry_kinds, instance_kinds, groups}
 use Rattle.gn_names.specs.First.{first_of}
-use Rattle.gn_tree.specs.Trees.{Node, node, Nodes, Settings, Socket, Named, Group, Tree}
-use Rattle.gn_tree.specs.Seen.{nodes_of, group_of, socket_of}
+use Rattle.gn_tree.specs.Trees.{Node, node, Settings, Socket, Named, Group, Tree}
 use Rattle.gn_rules.specs.declared.shape.Shape.{Shape}
-use Rattle.gn_rules.specs.Sockets.{Declared, one, one_of, declared, chosen, further, inputs_of, outputs_of, inputs_of_kind, outputs_of_kind, input_of_row, output_of_row, node_at}
+use Rattle.gn_rules.specs.Sockets.{Declared, one, one_of, declared, chosen, further, outputs_of, outputs_of_kind, output_of_row, node_at}
 use Rattle.gn_rules.specs.Scopes.{Scope}
 use Rattle.gn_rules.specs.Things.{socket_names}
 use Rattle.gn_check.specs.Nodes.{kind_in, settings_in}
-use Rattle.gn_meaning.specs.Sites.{Way, Site, at_output, nowhere, Read, plain_read}
+use Rattle.gn_meaning.specs.Sites.{Way, at_output, nowhere, Read, plain_read}
 use Rattle.gn_meaning.specs.Bodies.{Body, body_at}
-use Rattle.gn_meaning.specs.Reads.{Run, Part, a_node, a_group, a_repeat, part_in, part_at, passed, number_in, read_from}
+use Rattle.gn_meaning.specs.Reads.{Part, a_node, a_group, a_repeat, part_in, part_at, passed, number_in, read_from}
 use Rattle.gn_meaning.specs.Origins.{read_origin, output_origin, origin_within}
 use Rattle.gn_meaning.proofs.Parts.{group_outputs}
 use Rattle.gn_origin.specs.Nodes.{IsOther}

@@ -1,5 +1,5 @@
 -- In a tree that keeps the rules, a socket that takes one reads what is written under its name, or its default.
-use Rattle.std.proofs.Common.{◌≡◌, ◌++◌, ℕ, zero, suc, List, [], ◌∷◌, map, Option, Some, None, refl, sym, ◌∙◌, ap, subst, arith}
+use Rattle.std.proofs.Common.{◌≡◌, ◌++◌, ℕ, zero, suc, List, [], ◌∷◌, Option, Some, None, refl, sym, ◌∙◌, ap}
 use Rattle.std.specs.Prelude.{Bool, true, false, not, ◌||◌, IsTrue, find, bytes_eq, slice_get, option_map, if◌then◌else◌}
 use Rattle.std.specs.Option.{option_map_or}
 use Rattle.std.specs.List.{list_any}
@@ -14,7 +14,7 @@ use Rattle.gn_rules.specs.Sockets.{Declared, declared}
 use Rattle.gn_rules.specs.Scopes.{Scope}
 use Rattle.gn_rules.specs.Things.{an_input}
 use Rattle.gn_rules.specs.Rules.{KeepsRules, link_clashes}
-use Rattle.gn_meaning.specs.Sites.{Way, at_constant, default_at, Read, plain_read}
+use Rattle.gn_meaning.specs.Sites.{Way, at_constant, default_at, plain_read}
 use Rattle.gn_meaning.specs.Reads.{input_reads, unwritten, socket_reads, reads_of, read_at}
 use Rattle.gn_meaning.proofs.Reached.{Reached, keeps_rule}
 use Rattle.gn_meaning.proofs.Inputs.{AllSingle, InputsReached}

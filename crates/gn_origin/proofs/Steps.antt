@@ -1,30 +1,24 @@
 -- One step of a walk, and where walks end.
-use Rattle.std.proofs.Common.{◌≡◌, ◌++◌, ℕ, zero, suc, List, [], ◌∷◌, map, Option, Some, None, codes, refl, sym, ◌∙◌, ap, subst, arith}
-use Rattle.std.specs.Prelude.{Bool, true, false, slice_get, option_map}
-use Rattle.gn_kinds.specs.Row.{Text}
-use Rattle.gn_tree.specs.NodeKinds.{Kind}
-use Rattle.gn_tree.specs.Trees.{Node, node, Socket, Settings, Tree, Group}
+use Rattle.std.proofs.Common.{◌≡◌, ◌++◌, ℕ, List, Option, Some, None, codes, refl, ◌∙◌, ap}
+use Rattle.std.specs.Prelude.{Bool, true, false}
+use Rattle.gn_tree.specs.Trees.{Node, node, Tree}
 use Rattle.gn_rules.specs.Sockets.{is_zone}
 use Rattle.gn_rules.specs.Scopes.{Scope}
-use Rattle.gn_rules.specs.Rules.{KeepsRules}
 use Rattle.gn_check.specs.Nodes.{settings_in, inputs_in}
 use Rattle.gn_check.specs.Nodes as code
 use Rattle.gn_meaning.specs.Sites as sites
 use Rattle.gn_meaning.specs.Sites.{Way, into, plain_step, path_of, at_output, at_input, at_constant, zero_at, Read, plain_read}
-use Rattle.gn_meaning.specs.Bodies.{Body, body_in, kind_in}
-use Rattle.gn_meaning.specs.Reads.{Run, Part, a_node, node_reads, read_at, part_in, part_at, out_of}
-use Rattle.gn_meaning.specs.Origins.{Origins, read_origin, output_origin, next_origin}
-use Rattle.gn_meaning.specs.Forms.{HasForm}
+use Rattle.gn_meaning.specs.Bodies.{body_in, kind_in}
+use Rattle.gn_meaning.specs.Reads.{a_node, node_reads, part_in, part_at}
+use Rattle.gn_meaning.specs.Origins.{Origins, read_origin, next_origin}
 use Rattle.gn_origin.specs.declared.read.Read.{Read as CodeRead}
-use Rattle.gn_origin.specs.declared.walk.Frame.{Frame}
 use Rattle.gn_origin.specs.Constants.{kinds_of}
-use Rattle.gn_origin.specs.Nodes.{group_in}
-use Rattle.gn_origin.specs.Frames.{Frames, way_of, site_of, Opens, IsMove, AreOpen, IsThere}
-use Rattle.gn_origin.specs.Reading.{IsElsewhere, IsRead, read_of, named_read}
-use Rattle.gn_origin.specs.Walking.{Leads, IsOrigin}
+use Rattle.gn_origin.specs.Frames.{Frames, way_of, site_of, IsMove, IsThere}
+use Rattle.gn_origin.specs.Reading.{IsElsewhere, IsRead}
+use Rattle.gn_origin.specs.Walking.{Leads}
 use Rattle.gn_origin.proofs.Back.{leads_same, elsewhere_too}
 use Rattle.gn_origin.proofs.Reading.{part_there}
-use Rattle.gn_origin.proofs.Ways.{elsewhere_after, inner, goes_in, goes_out, out_read, in_read}
+use Rattle.gn_origin.proofs.Ways.{elsewhere_after}
 
 pub name_of_kind : (s : Scope) (x : Node) → (kind_in s x).name ≡ code.kind_in x
 name_of_kind s (node id kind set inputs) = by (is_zone set) refl

@@ -1,20 +1,19 @@
 -- Going into group nodes and out of them.
-use Rattle.std.proofs.Common.{◌≡◌, ◌++◌, ℕ, zero, suc, List, [], ◌∷◌, map, Option, Some, None, codes, refl, sym, ◌∙◌, ap, subst, arith, append-nil}
-use Rattle.std.specs.Prelude.{bytes_eq, true, slice_get, option_map, option_and_then}
+use Rattle.std.proofs.Common.{◌≡◌, ◌++◌, ℕ, List, [], ◌∷◌, map, Option, Some, None, codes, refl, sym, ◌∙◌, ap, subst}
+use Rattle.std.specs.Prelude.{bytes_eq, slice_get, option_map, option_and_then}
 use Rattle.std.specs.Option.{option_map_or}
 use Rattle.std.proofs.lemmas.Option.{slice_get-map}
-use Rattle.gn_kinds.specs.Row.{Text}
 use Rattle.gn_kinds.specs.Table.{row_of_kind, table, values, functions, elsewhere, attributes, geometry_kinds, instance_kinds, groups}
-use Rattle.gn_tree.specs.Trees.{Node, node, Socket, Named, Settings, Tree, Group}
-use Rattle.gn_rules.specs.Sockets.{one_of, single, further, inputs_of, inputs_of_kind, node_at}
+use Rattle.gn_tree.specs.Trees.{Node, node, Socket, Tree, Group}
+use Rattle.gn_rules.specs.Sockets.{one_of, further, inputs_of, inputs_of_kind, node_at}
 use Rattle.gn_rules.specs.Scopes.{Scope}
 use Rattle.gn_rules.specs.Rules.{KeepsRules}
-use Rattle.gn_rules.specs.Things.{a_node, the_inputs, parts}
+use Rattle.gn_rules.specs.Things.{a_node, the_inputs}
 use Rattle.gn_pointers.specs.Pointers.{key}
 use Rattle.gn_check.specs.Nodes.{kind_in, settings_in, inputs_in}
-use Rattle.gn_meaning.specs.Sites.{Way, the_tree, into, plain_step, Site, at_output, at_input, zero_at, nowhere, Read, plain_read}
+use Rattle.gn_meaning.specs.Sites.{Way, the_tree, into, plain_step, at_output, at_input, zero_at, nowhere, Read, plain_read}
 use Rattle.gn_meaning.specs.Bodies.{Body, tree_body, group_body, body_in, body_of, body_at}
-use Rattle.gn_meaning.specs.Reads.{default_of, reads_of, node_reads, given_out, read_at, Part, a_group, a_repeat, part_by, part_in, part_at, out_of}
+use Rattle.gn_meaning.specs.Reads.{default_of, reads_of, node_reads, given_out, read_at, a_group, part_in, part_at, out_of}
 use Rattle.gn_meaning.specs.Origins.{Origins, read_origin, output_origin, input_origin, next_origin, origin_within, IsReadFrom}
 use Rattle.gn_meaning.specs.Forms.{HasForm}
 use Rattle.gn_meaning.specs.There.{LeadsTo, to_the_tree, into_group}

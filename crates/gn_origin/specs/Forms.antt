@@ -1,5 +1,5 @@
 -- That the settings stand in nodes of their kinds holds in one way at most.
-use Rattle.std.specs.Prelude.{◌≡◌, List, [], ◌∷◌, codes}
+use Rattle.std.specs.Prelude.{List, [], ◌∷◌, codes}
 use Rattle.std.specs.Coded.{Coded, Coded-set, coded_ℕ, coded_list, Unit-prop, ×_prop}
 use Rattle.gn_kinds.specs.Row.{Text}
 use Rattle.gn_tree.specs.Trees.{Node, node, Settings, no_settings, and_setting, and_zone, Nodes, no_nodes, and_node, Group, Tree, of_group}

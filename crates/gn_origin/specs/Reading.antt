@@ -5,7 +5,7 @@ use Rattle.gn_kinds.specs.Row.{Text}
 use Rattle.gn_kinds.specs.declared.row.SocketKind.{SocketKind}
 use Rattle.gn_tree.specs.Trees.{Input, constant, link, links, Named, Node, Tree}
 use Rattle.gn_tree.specs.Seen.{group_of, nodes_of, socket_of, tree_of}
-use Rattle.gn_rules.specs.Sockets.{one_of, single, declared, outputs_of}
+use Rattle.gn_rules.specs.Sockets.{one_of, declared, outputs_of}
 use Rattle.gn_rules.specs.Scopes.{Scope}
 use Rattle.gn_meaning.specs.Sites as sites
 use Rattle.gn_meaning.specs.Sites.{Way, Constant, a_value, at_output, at_input, at_constant, nowhere, the_tree, into, Read, plain_read}

@@ -1,4 +1,4 @@
-use Rattle.std.proofs.Common.{◌≡◌, Some, None, refl, sym, ◌∙◌, ap, subst}
+use Rattle.std.proofs.Common.{Some, ◌∙◌, ap, subst}
 use Rattle.gn_tree.specs.Seen.{tree_of}
 use Rattle.gn_origin.specs.Reading.{IsRead}
 use Rattle.gn_origin.proofs.Moving.{on_ok}

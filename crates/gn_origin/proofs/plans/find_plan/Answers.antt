@@ -1,4 +1,4 @@
-use Rattle.std.proofs.Common.{◌≡◌, IfOk, sym, ◌∙◌, ap, subst}
+use Rattle.std.proofs.Common.{IfOk, ◌∙◌, ap, subst}
 use Rattle.gn_tree.specs.Seen.{tree_of}
 use Rattle.gn_meaning.proofs.Formed.{has_form}
 use Rattle.gn_plans.specs.Answers.{Answers}

@@ -1,8 +1,8 @@
-use Rattle.std.proofs.Common.{◌≡◌, ◌<◌, ℕ, Some, None, true, false, refl, sym, ◌∙◌, ap, subst, arith}
+use Rattle.std.proofs.Common.{◌≡◌, ◌<◌, true, false, sym, ◌∙◌, ap, subst, arith}
 use Rattle.gn_tree.specs.Seen.{tree_of}
-use Rattle.gn_meaning.specs.Reads.{read_at, Run}
+use Rattle.gn_meaning.specs.Reads.{read_at}
 use Rattle.gn_meaning.specs.Sites.{plain_read, at_input, the_tree}
-use Rattle.gn_origin.specs.Moves.{EndsAt, IsMoveOf, AreRead}
+use Rattle.gn_origin.specs.Moves.{EndsAt}
 use Rattle.gn_origin.proofs.Moving.{on_ok}
 use Rattle.gn_origin.proofs.Moved.{are_read, move_kind, input_only, input_from, moves_are}
 use Rattle.gn_origin.proofs.plans.moved.Goals as goal

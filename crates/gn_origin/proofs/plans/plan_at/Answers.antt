@@ -1,11 +1,8 @@
-use Rattle.std.proofs.Common.{◌≡◌, Some, None, true, false, map, refl, sym, ◌∙◌, ap, subst}
+use Rattle.std.proofs.Common.{sym, subst}
 use Rattle.gn_tree.specs.Seen.{tree_of}
-use Rattle.gn_meaning.specs.Reads.{read_at, Run, kind_number}
 use Rattle.gn_meaning.specs.Demand.{output_read}
-use Rattle.gn_origin.specs.Frames.{AreOpen, IsMove}
 use Rattle.gn_plans.specs.Answers.{Answers}
-use Rattle.gn_origin.specs.Moves.{IsReady}
-use Rattle.gn_origin.proofs.Moved.{ways_open, site_there}
+use Rattle.gn_origin.proofs.Moved.{ways_open}
 use Rattle.gn_origin.proofs.Moving.{on_ok}
 use Rattle.gn_origin.proofs.Planned.{some_conversions, no_conversions, none_converted, constant_answers, input_answers, not_group, move_there, move_run, from_move, move_answers}
 use Rattle.gn_origin.proofs.plans.plan_at.Goals as goal

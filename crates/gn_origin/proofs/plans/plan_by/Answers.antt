@@ -1,4 +1,4 @@
-use Rattle.std.proofs.Common.{◌≡◌, Some, None, sym, subst}
+use Rattle.std.proofs.Common.{sym, subst}
 use Rattle.gn_tree.specs.Seen.{tree_of}
 use Rattle.gn_meaning.specs.Demand.{output_read}
 use Rattle.gn_origin.specs.Reading.{IsRead}

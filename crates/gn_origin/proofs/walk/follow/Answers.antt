@@ -1,6 +1,6 @@
-use Rattle.std.proofs.Common.{◌≡◌, ◌<◌, ◌≤◌, ℕ, suc, Some, None, refl, sym, ◌∙◌, ap, subst, arith}
+use Rattle.std.proofs.Common.{◌<◌, sym, ◌∙◌, subst, arith}
 use Rattle.gn_tree.specs.Seen.{tree_of}
-use Rattle.gn_origin.specs.declared.walk.Progress.TheVariants.{Moved, Arrived, Lost}
+use Rattle.gn_origin.specs.declared.walk.Progress.TheVariants.{Moved, Arrived}
 use Rattle.gn_origin.specs.Reading.{IsElsewhere}
 use Rattle.gn_origin.specs.Walking.{Steps, Leads, IsOrigin, tree_by, read_by, IsFoundBelow, AreSame}
 use Rattle.gn_origin.proofs.Back.{leads_same, same_then, elsewhere_too, found_sooner, fewer_left, steps_left}

@@ -1,8 +1,8 @@
-use Rattle.std.proofs.Common.{◌≡◌, ◌∷◌, drop, refl, sym, ap, subst, map, ◌∙◌}
+use Rattle.std.proofs.Common.{◌∷◌, sym, subst}
 use Rattle.gn_tree.specs.Seen.{tree_of}
 use Rattle.gn_meaning.specs.Forms.{HasForm}
 use Rattle.gn_origin.specs.Nodes.{HasGroups}
-use Rattle.gn_origin.specs.Frames.{Frames, AreOpen}
+use Rattle.gn_origin.specs.Frames.{AreOpen}
 use Rattle.gn_origin.specs.Reading.{IsAt}
 use Rattle.gn_origin.proofs.Inner.{inside_at, front_of}
 use Rattle.gn_origin.proofs.groups.Lists.at_end.Goals as goal

@@ -1,5 +1,5 @@
-use Rattle.std.proofs.Common.{◌≡◌, refl, sym, ap, subst, map, length}
-use Rattle.gn_tree.specs.Seen.{nodes_of, socket_of, tree_of}
+use Rattle.std.proofs.Common.{refl, sym, subst, map, length}
+use Rattle.gn_tree.specs.Seen.{nodes_of, tree_of}
 use Rattle.gn_rules.specs.Sockets.{one_of}
 use Rattle.gn_meaning.specs.Bodies.{tree_body}
 use Rattle.gn_meaning.specs.Forms.{NodesHaveForm}

@@ -1,4 +1,3 @@
-use Rattle.std.proofs.Common.{◌≡◌}
 use Rattle.gn_origin.specs.Reading.{scope_of}
 use Rattle.gn_origin.proofs.Parts.{zone_holds, passes_on}
 use Rattle.gn_origin.proofs.list.List.inside_setting.Goals as goal

@@ -1,5 +1,5 @@
-use Rattle.std.proofs.Common.{◌≡◌, Some, None, map, codes, refl, sym, ◌∙◌, ap, subst, arith}
-use Rattle.std.specs.Prelude.{bytes_eq, true, false, slice_get}
+use Rattle.std.proofs.Common.{◌≡◌, Some, None, map, codes, sym, ◌∙◌, ap, subst, arith}
+use Rattle.std.specs.Prelude.{bytes_eq}
 use Rattle.std.proofs.lemmas.Option.{slice_get-get_or}
 use Rattle.gn_names.specs.First.{first_of}
 use Rattle.gn_rules.specs.Sockets.{ids}
@@ -7,7 +7,7 @@ use Rattle.gn_tree.specs.Seen.{link_of, nodes_of, socket_of}
 use Rattle.gn_meaning.specs.Reads.{link_read}
 use Rattle.gn_origin.specs.Looking.{IsFound}
 use Rattle.gn_origin.specs.Frames.{way_of}
-use Rattle.gn_origin.specs.Reading.{tree_by, IsAt, IsRead, node_read}
+use Rattle.gn_origin.specs.Reading.{tree_by, IsRead, node_read}
 use Rattle.gn_origin.specs.declared.read.Site.TheVariants as site
 use Rattle.gn_origin.proofs.Lists.{entry_found, entry_lost, link_lost, link_on, read_so}
 use Rattle.gn_origin.proofs.Inner.{first_node_within}

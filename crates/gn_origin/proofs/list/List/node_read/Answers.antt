@@ -1,9 +1,9 @@
-use Rattle.std.proofs.Common.{◌≡◌, ℕ, Some, None, map, refl, sym, ◌∙◌, ap, subst}
+use Rattle.std.proofs.Common.{ℕ, map, refl, sym, ◌∙◌, subst}
 use Rattle.gn_tree.specs.Seen.{socket_of}
 use Rattle.gn_origin.specs.Looking.{IsFound}
 use Rattle.gn_origin.specs.Nodes.{IsPart, group_in}
 use Rattle.gn_origin.specs.Frames.{way_of}
-use Rattle.gn_origin.specs.Reading.{scope_of, tree_by, IsAt, IsRead, node_read}
+use Rattle.gn_origin.specs.Reading.{scope_of, tree_by, IsRead, node_read}
 use Rattle.gn_origin.specs.declared.list.Part.TheVariants as part
 use Rattle.gn_origin.specs.declared.read.Site.TheVariants as site
 use Rattle.gn_origin.proofs.Lists.{form_here, group_found, group_lost, move_found, move_lost, other_found, read_so}

@@ -1,11 +1,10 @@
-use Rattle.std.proofs.Common.{◌≡◌, Some, None, codes, refl, sym, ◌∙◌, ap, subst}
-use Rattle.std.specs.Prelude.{bytes_eq, true, false}
-use Rattle.gn_tree.specs.Seen.{settings_of}
+use Rattle.std.proofs.Common.{codes, sym, ◌∙◌, ap, subst}
+use Rattle.std.specs.Prelude.{bytes_eq}
 use Rattle.gn_check.specs.Nodes.{kind_in, settings_in}
 use Rattle.gn_origin.specs.Nodes.{Holds}
 use Rattle.gn_origin.specs.Reading.{scope_of}
 use Rattle.gn_origin.specs.declared.list.Inside.TheVariants as inside
-use Rattle.gn_origin.proofs.Others.{settings_form, not_group, a_zone, no_move, is_text}
+use Rattle.gn_origin.proofs.Others.{settings_form, not_group, a_zone, is_text}
 use Rattle.gn_origin.proofs.list.List.part.Goals as goal
 
 pub returns-then-eq : goal.returns-then-eq

@@ -1,4 +1,4 @@
-use Rattle.std.proofs.Common.{◌≡◌, ◌∷◌, map, Some, None, refl, sym, ◌∙◌, ap, subst}
+use Rattle.std.proofs.Common.{◌∷◌, map, refl, ap, subst}
 use Rattle.gn_tree.specs.Seen.{named_of}
 use Rattle.gn_meaning.specs.Sites.{at_output}
 use Rattle.gn_origin.specs.Frames.{way_of, site_of, IsThere}

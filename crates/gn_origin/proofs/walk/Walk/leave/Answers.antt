@@ -1,4 +1,4 @@
-use Rattle.std.proofs.Common.{◌≡◌, ◌∷◌, map, subst}
+use Rattle.std.proofs.Common.{◌∷◌, map, subst}
 use Rattle.gn_tree.specs.Seen.{named_of}
 use Rattle.gn_meaning.specs.Sites.{at_input}
 use Rattle.gn_meaning.specs.Reads.{kind_number}
