@@ -1,12 +1,13 @@
 -- Commands, ends and what files lead to, by computation.
-use Rattle.std.proofs.Common.{◌≡◌, [], ◌∷◌, Some, None, Ok, Err, codes, refl, option_map}
+use Rattle.std.proofs.Common.{◌≡◌, ◌≤◌, List, [], ◌∷◌, ◌++◌, Some, None, Ok, Err, codes, refl, ap, option_map, inl, arith}
 use Rattle.gn_io.specs.Files.{absent, too_long}
 use Rattle.gn_app.specs.declared.status.Status.TheVariants.{TreeForm}
 use Rattle.gn_app.specs.Status.{code_of}
-use Rattle.gn_app.specs.Command.{eval, check, help, Spells, Misfits, files_of}
-use Rattle.gn_app.specs.Ending.{done, misused, no_file, no_json, overlong, said_of, line_of}
+use Rattle.gn_kinds.specs.Row.{Text}
+use Rattle.gn_app.specs.Command.{Command, eval, check, help, version, Spells, Misfits, StrayMisfit, files_of}
+use Rattle.gn_app.specs.Ending.{done, misused, no_file, unreadable, unwritable, no_json, overlong, not_built, said_of, line_of}
 use Rattle.gn_app.specs.Job.{Leads, writing, help_text}
-use Rattle.gn_app.specs.Outcome.{AsksFor, IsLastAsked, the_tree}
+use Rattle.gn_app.specs.Outcome.{Taken, AsksFor, IsLastAsked, the_tree, StopsAtTree, EndsAs, WritesLate, RunsLate}
 
 words_of_eval : Spells (codes "eval" ∷ codes "t.json" ∷ codes "in.obj" ∷ []) (eval (codes "t.json") (codes "in.obj"))
 words_of_eval = refl
@@ -48,3 +49,62 @@ more_expected = record { command = eval (codes "t.json") (codes "o"); more = cod
 
 code_of_a_form : code_of TreeForm ≡ 7
 code_of_a_form = refl
+
+-- `--help` takes no operand
+behind_help : (c : Command) (more : List Text) → Spells ((codes "--help" ∷ codes "me" ∷ []) ++ more) c → ⊥
+behind_help (eval t o) more h = cc
+behind_help (check t) more h = cc
+behind_help help more h = cc
+behind_help version more h = cc
+
+one_word_too_many : Misfits (codes "--help" ∷ codes "me" ∷ codes "now" ∷ []) (Some (codes "me"))
+one_word_too_many = record {
+  front = codes "--help" ∷ [];
+  back = codes "now" ∷ [];
+  parts = refl;
+  fits = record { command = help; more = []; spelled = refl };
+  unfit = λ b. behind_help b.command b.more b.spelled;
+}
+
+-- the misfit before a word that is no text is the one that is named
+a_misfit_before_a_stray : StrayMisfit (codes "--help" ∷ codes "me" ∷ codes "now" ∷ []) (255 ∷ []) (codes "me")
+a_misfit_before_a_stray = inl one_word_too_many
+
+-- ---- how a run may end that the files lead to an absent tree
+
+ends_as_it_must : EndsAs (no_file (codes "t")) ⊥ ⊥ (no_file (codes "t"))
+ends_as_it_must = refl
+
+not_as_another : ¬ EndsAs (no_file (codes "t")) (Unit {0}) (Unit {0}) not_built
+not_as_another h = cc
+
+no_fault_without_a_cause : ¬ EndsAs (no_file (codes "t")) ⊥ ⊥ (unreadable (codes "t"))
+no_fault_without_a_cause h = h
+
+nothing_to_write : ¬ EndsAs (no_file (codes "t")) (Unit {0}) (Unit {0}) (unwritable 0)
+nothing_to_write h = let bad = h.1 in cc
+
+-- ---- where the tree decides, the input isn't asked for
+
+the_tree_is_unreadable : StopsAtTree (eval (codes "t") (codes "o")) (unreadable (codes "t")) (Some []) (Some (codes "t" ∷ []))
+the_tree_is_unreadable = (refl, refl)
+
+not_the_input : ¬ StopsAtTree (eval (codes "t") (codes "o")) (unreadable (codes "o")) (Some []) (Some (codes "t" ∷ codes "o" ∷ []))
+not_the_input h = let bad = h.1 in cc
+
+-- ---- the output and the node runs
+
+abbrev taken : Text → Taken
+taken text = record { held = Some text; faults = 0 }
+
+the_end_is_written : WritesLate done (taken (codes "v")) (taken (codes "v 0"))
+the_end_is_written = (codes " 0", refl)
+
+no_byte_before_a_refusal : ¬ WritesLate no_json (taken []) (taken (codes "v"))
+no_byte_before_a_refusal h = let bad : Some (codes "v") ≡ Some [] = ap (λ t. t.held) h in cc
+
+no_run_before_a_refusal : ¬ RunsLate no_json 0 1
+no_run_before_a_refusal h = absurd (omega (arith, h))
+
+runs_of_what_is_done : RunsLate done 0 1
+runs_of_what_is_done = omega arith

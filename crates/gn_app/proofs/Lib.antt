@@ -5,3 +5,4 @@ pub mod Saying
 pub mod Running
 pub mod Spelling
 mod Examples
+mod Sample
