@@ -1,5 +1,5 @@
 -- Why no mesh is read.
-use Rattle.std.specs.Prelude.{◌≡◌, Result, Ok, Err}
+use Rattle.std.specs.Prelude.{◌≡◌, Result, Err}
 use Rattle.gn_plain.specs.Geometry.{Shape}
 use Rattle.gn_elements.specs.Read as read
 use Rattle.gn_obj.specs.declared.fault.ObjFault.{ObjFault}

@@ -1,4 +1,4 @@
-use Rattle.std.proofs.Common.{◌≡◌, ◌∙◌, sym, ap, refl, Ok, Err}
+use Rattle.std.proofs.Common.{◌∙◌, sym, ap, refl, Ok}
 use Rattle.gn_elements.specs.Seen.{growing}
 use Rattle.gn_spelled.proofs.Spelled.{spelled, spelled_bad}
 use Rattle.gn_obj.proofs.read.read_obj.Goals as goal
