@@ -11,11 +11,11 @@ use Rattle.gn_io.specs.Files.{whole}
 use Rattle.gn_kinds.specs.Row.{Text}
 use Rattle.gn_kinds.specs.Table.{row_of_kind, table, values, functions, elsewhere, attributes, geometry_kinds, instance_kinds, groups}
 use Rattle.gn_value.specs.Values.{v3}
-use Rattle.gn_value.specs.declared.value.Value.TheVariants.{Vector as vector}
+use Rattle.gn_value.specs.declared.value.Value.TheVariants.{Truth as truth, Vector as vector}
 use Rattle.gn_decimal.specs.Decimal.{nearest, small_number, signed_exponent, exponent_of, parts_of, units, raw_of, magnitude_of, num, dec, fraction_digits}
 use Rattle.gn_lines.specs.Lines.{lines}
 use Rattle.gn_pointers.specs.Pointers.{Pointer, key, IsFirst}
-use Rattle.gn_tree.specs.Trees.{constant, link, node, no_settings, no_nodes, and_node, Tree}
+use Rattle.gn_tree.specs.Trees.{constant, link, Node, node, no_settings, no_nodes, and_node, Tree}
 use Rattle.gn_tree.specs.Rising.{NamesRiseInTree}
 use Rattle.gn_form.specs.Form.{a_tree, BreaksForm}
 use Rattle.gn_form.specs.Walk.{first_in}
@@ -23,6 +23,7 @@ use Rattle.gn_form.proofs.Exact.{tree_is_first}
 use Rattle.gn_form.proofs.Sorted.{read_in_order}
 use Rattle.gn_json.specs.Answers.{json}
 use Rattle.gn_json.specs.Exact.{tree_from}
+use Rattle.gn_json.proofs.Formed.{is_of_form}
 use Rattle.gn_rules.specs.Rules.{KeepsRules}
 use Rattle.gn_rules.specs.Walk.{named, Tells}
 use Rattle.gn_rules.proofs.Named.{named_tells}
@@ -30,9 +31,14 @@ use Rattle.gn_cycle.specs.Ways.{is_on_cycle}
 use Rattle.gn_plain.specs.Geometry.{Corner, Shape, of_shape}
 use Rattle.gn_plain.specs.Edges.{Edge}
 use Rattle.gn_rows.specs.Limits.{is_large}
-use Rattle.gn_plans.specs.Plans.{Plan, a_move, plan_for}
+use Rattle.gn_rules.specs.Scopes.{tree_scope}
+use Rattle.gn_meaning.specs.Bodies.{kind_in}
+use Rattle.gn_meaning.specs.Sites.{the_tree, path_of}
+use Rattle.gn_meaning.specs.Reads.{Run, node_reads}
+use Rattle.gn_meaning.specs.Forms.{HasForm}
+use Rattle.gn_meaning.proofs.Formed.{has_form}
+use Rattle.gn_plans.specs.Plans.{Plan, a_move, IsPlan, gives_moved}
 use Rattle.gn_plan_laws.specs.Made.{made}
-use Rattle.gn_plan_laws.proofs.Formed.{tree_form}
 use Rattle.gn_plan_laws.proofs.Planned.{plan_stands, plan_demands}
 use Rattle.gn_elements.specs.Read.{mesh}
 use Rattle.gn_obj.specs.Written.{obj_text}
@@ -77,15 +83,18 @@ node_data = object (member (codes "id") (string (codes "up")) (member (codes "in
 abbrev tree_data : Data
 tree_data = object (member (codes "format") (number (unsigned 1)) (member (codes "nodes") (array (item node_data no_items)) (member (codes "output") (link_data (codes "up")) no_members)))
 
+abbrev up : Node
+up = node (codes "up") (codes "set_position") no_settings (
+  record { name = codes "geometry"; input = link (record { from = codes "input"; socket = codes "geometry" }) }
+  ∷ record { name = codes "offset"; input = constant (vector (v3 (pos 0) (pos 0) (pos 4294967296))) }
+  ∷ []
+)
+
 abbrev lifting : Tree
 lifting = record {
   format = 1;
   groups = [];
-  nodes = and_node (node (codes "up") (codes "set_position") no_settings (
-    record { name = codes "geometry"; input = link (record { from = codes "input"; socket = codes "geometry" }) }
-    ∷ record { name = codes "offset"; input = constant (vector (v3 (pos 0) (pos 0) (pos 4294967296))) }
-    ∷ []
-  )) no_nodes;
+  nodes = and_node up no_nodes;
   output = Some (link (record { from = codes "up"; socket = codes "geometry" }));
 }
 
@@ -141,8 +150,32 @@ is_mesh = refl
 abbrev move : Plan
 move = a_move true None (v3 (pos 0) (pos 0) (pos 4294967296))
 
-planned : plan_for lifting ≡ Some move
-planned = refl
+abbrev lift : Run
+lift = record {
+  path = path_of the_tree 0;
+  kind = kind_in (tree_scope lifting) up;
+  reads = node_reads (tree_scope lifting) the_tree up;
+}
+
+planned : IsPlan lifting move
+unfolding row_of_kind table values functions elsewhere attributes geometry_kinds instance_kinds groups
+planned =
+    gives_moved the_tree 0 lift true None (v3 (pos 0) (pos 0) (pos 4294967296)) (1, refl) refl (
+      record {
+        kind = refl;
+        geometry = (1, refl);
+        selections = 0;
+        positions = 0;
+        offsets = 0;
+        selection = (truth true, [], (1, refl), refl, refl);
+        position = ((1, refl), refl);
+        offset = (vector (v3 (pos 0) (pos 0) (pos 4294967296)), [], (1, refl), refl, refl);
+        few = omega arith;
+      }
+    )
+
+formed : HasForm lifting
+formed = has_form lifting (is_of_form tree_text tree_data lifting (is_json, no_misfit) is_from)
 
 small : is_large (of_shape triangle) ≡ false
 small = refl
@@ -160,12 +193,12 @@ is_text = refl
 comes : ComesTo files work lifted_text
 comes = record {
   geometry = made move triangle;
-  denotes = plan_stands (answers files) lifting triangle move keeps (tree_form tree_data lifting is_from) small planned;
+  denotes = plan_stands (answers files) lifting triangle move keeps formed small planned;
   is = sym is_text;
 }
 
 takes : TakesRuns files work 1
-takes = plan_demands (answers files) lifting triangle move keeps (tree_form tree_data lifting is_from) small planned
+takes = plan_demands (answers files) lifting triangle move keeps formed small planned
 
 -- before the run, and after it
 abbrev outside : List ℕ → List Text → ℕ → Outside

@@ -1,10 +1,10 @@
 -- Topologies that are and that aren't those of a mesh.
-use Rattle.std.proofs.Common.{◌≡◌, ℕ, ◌<◌, List, [], ◌∷◌, refl, ap, subst, arith, false, slice_index_or, nat_eq}
+use Rattle.std.proofs.Common.{◌≡◌, ◌≢◌, ℕ, ◌<◌, AllPairs, List, [], ◌∷◌, refl, ap, subst, arith, false, slice_index_or, nat_eq}
 use Rattle.std.proofs.lemmas.List.Elements.{All-from_recursion, All-nil}
 use Rattle.std.proofs.lemmas.Bool.Decides.{nat_tests}
 use Rattle.std.proofs.lemmas.List.Kept.{AllPairs-cons}
 use Rattle.gn_plain.specs.Edges.{Edge}
-use Rattle.gn_plain.specs.Topology.{Topology, IsValid, AllDiffer, IsJoined, vertices_of, faces_of}
+use Rattle.gn_plain.specs.Topology.{Topology, IsValid, IsJoined, vertices_of, faces_of}
 
 -- one face of three corners
 abbrev face_with : List (ℕ × ℕ) → List ℕ → Topology
@@ -19,7 +19,7 @@ face_with edges around = record {
 abbrev triangle : Topology
 triangle = face_with ((0, 1) ∷ (1, 2) ∷ (0, 2) ∷ []) (0 ∷ 1 ∷ 2 ∷ [])
 
-three_differ : {X : Type 0} (a b c : X) → ¬ (a ≡ b) → ¬ (a ≡ c) → ¬ (b ≡ c) → AllDiffer (a ∷ b ∷ c ∷ [])
+three_differ : {X : Type 0} (a b c : X) → ¬ (a ≡ b) → ¬ (a ≡ c) → ¬ (b ≡ c) → AllPairs (λ a b. a ≢ b) (a ∷ b ∷ c ∷ [])
 three_differ {X} a b c ab ac bc =
     let Differ : X → X → Type 0 = λ x y. ¬ (x ≡ y) in
     let last = AllPairs-cons Differ c [] (All-nil (Differ c)) (λ i j d lt within. absurd (omega (arith, within))) in
@@ -39,7 +39,7 @@ a_triangle = record {
   corner_points_within = All-from_recursion (λ v. v < 3) triangle.corner_points (omega arith, (omega arith, (omega arith, tt)));
   corner_edges_within = All-from_recursion (λ k. k < 3) triangle.corner_edges (omega arith, (omega arith, (omega arith, tt)));
   offsets = (refl, (omega arith, refl));
-  vertices_differ = All-from_recursion (λ f. AllDiffer (vertices_of f)) (faces_of triangle) (three_differ 0 1 2 (apart 0 1 refl) (apart 0 2 refl) (apart 1 2 refl), tt);
+  vertices_differ = All-from_recursion (λ f. AllPairs (λ a b. a ≢ b) (vertices_of f)) (faces_of triangle) (three_differ 0 1 2 (apart 0 1 refl) (apart 0 2 refl) (apart 1 2 refl), tt);
   joined = All-from_recursion (IsJoined triangle.edges) (faces_of triangle) (refl, tt);
 }
 

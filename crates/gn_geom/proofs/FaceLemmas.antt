@@ -1,12 +1,12 @@
 -- The faces of a topology by the numbers of their vertices and of their edges.
-use Rattle.std.proofs.Common.{◌≡◌, ℕ, ◌+◌, ◌-◌, ◌<◌, ◌≤◌, get_or, List, [], ◌∷◌, length, map, drop, take, refl, sym, ap, ◌∙◌, subst, arith}
+use Rattle.std.proofs.Common.{◌≡◌, ◌≢◌, ℕ, ◌+◌, ◌-◌, ◌<◌, ◌≤◌, get_or, List, [], ◌∷◌, length, map, drop, take, refl, sym, ap, ◌∙◌, subst, arith}
 use Rattle.std.specs.Prelude.{slice_range}
-use Rattle.std.specs.List.{All, zip}
+use Rattle.std.specs.List.{All, AllPairs, zip}
 use Rattle.std.proofs.lemmas.List.{take-map, drop-map, drop_more}
 use Rattle.std.proofs.lemmas.List.Elements.{All-nil, All-cons, All-head, All-tail}
 use Rattle.gn_plain.specs.Geometry.{Corner}
 use Rattle.gn_plain.specs.Edges.{edges_around}
-use Rattle.gn_plain.specs.Topology.{Topology, corner_of, edge_at, parts_between, vertices_of, AllDiffer, AreOffsets, IsJoined, IsValid, RiseTo}
+use Rattle.gn_plain.specs.Topology.{Topology, corner_of, edge_at, parts_between, vertices_of, AreOffsets, IsJoined, IsValid, RiseTo}
 use Rattle.gn_plain.proofs.TopologyLemmas.{le_from_RiseTo}
 use Rattle.gn_geom.specs.Faces.{AreFaces}
 
@@ -42,16 +42,16 @@ face_edges edges vs ks a b e =
 
 -- the facts of all faces, by corners
 abbrev AreGood : List (ℕ × ℕ) → List (List Corner) → Type 0
-AreGood edges faces = All (λ f. AllDiffer (vertices_of f)) faces × All (IsJoined edges) faces
+AreGood edges faces = All (λ f. AllPairs (λ a b. a ≢ b) (vertices_of f)) faces × All (IsJoined edges) faces
 
 pub faces_good : (edges : List (ℕ × ℕ)) (vs ks : List ℕ) → length vs ≡ length ks → (offsets : List ℕ)
     → AreFaces edges offsets vs ks → AreGood edges (parts_between offsets (map corner_of (zip vs ks)))
-faces_good edges vs ks e [] faces = (All-nil (λ f. AllDiffer (vertices_of f)), All-nil (IsJoined edges))
-faces_good edges vs ks e (a ∷ []) faces = (All-nil (λ f. AllDiffer (vertices_of f)), All-nil (IsJoined edges))
+faces_good edges vs ks e [] faces = (All-nil (λ f. AllPairs (λ a b. a ≢ b) (vertices_of f)), All-nil (IsJoined edges))
+faces_good edges vs ks e (a ∷ []) faces = (All-nil (λ f. AllPairs (λ a b. a ≢ b) (vertices_of f)), All-nil (IsJoined edges))
 faces_good edges vs ks e (a ∷ b ∷ offsets) faces =
     let rest = faces_good edges vs ks e (b ∷ offsets) faces.1 in
     let face = slice_range (map corner_of (zip vs ks)) a b in (
-      All-cons (λ f. AllDiffer (vertices_of f)) face _ (subst AllDiffer (sym (face_vertices vs ks a b e)) faces.0.0) rest.0,
+      All-cons (λ f. AllPairs (λ a b. a ≢ b) (vertices_of f)) face _ (subst (AllPairs (λ a b. a ≢ b)) (sym (face_vertices vs ks a b e)) faces.0.0) rest.0,
       All-cons (IsJoined edges) face _ (face_edges edges vs ks a b e ∙ faces.0.1 ∙ ap edges_around (sym (face_vertices vs ks a b e))) rest.1,
     )
 
@@ -61,10 +61,10 @@ faces_from_good edges vs ks e [] good = tt
 faces_from_good edges vs ks e (a ∷ []) good = tt
 faces_from_good edges vs ks e (a ∷ b ∷ offsets) good =
     let face = slice_range (map corner_of (zip vs ks)) a b in
-    let differ = All-head (λ f. AllDiffer (vertices_of f)) face _ good.0 in
+    let differ = All-head (λ f. AllPairs (λ a b. a ≢ b) (vertices_of f)) face _ good.0 in
     let joined = All-head (IsJoined edges) face _ good.1 in (
-      (subst AllDiffer (face_vertices vs ks a b e) differ, sym (face_edges edges vs ks a b e) ∙ joined ∙ ap edges_around (face_vertices vs ks a b e)),
-      faces_from_good edges vs ks e (b ∷ offsets) (All-tail (λ f. AllDiffer (vertices_of f)) face _ good.0, All-tail (IsJoined edges) face _ good.1),
+      (subst (AllPairs (λ a b. a ≢ b)) (face_vertices vs ks a b e) differ, sym (face_edges edges vs ks a b e) ∙ joined ∙ ap edges_around (face_vertices vs ks a b e)),
+      faces_from_good edges vs ks e (b ∷ offsets) (All-tail (λ f. AllPairs (λ a b. a ≢ b) (vertices_of f)) face _ good.0, All-tail (IsJoined edges) face _ good.1),
     )
 
 -- the next offset
@@ -75,7 +75,7 @@ next_offset count from offsets i within rise =
     (step.0, le_from_RiseTo count (get_or offsets i 0) (drop (i + 1) offsets) step.1, step.1)
 
 -- a topology whose parts were checked
-pub valid_parts : (t : Topology) → All (λ e. e.0 < e.1) t.edges → All (λ e. e.1 < t.points) t.edges → AllDiffer t.edges → length t.corner_points ≡ length t.corner_edges
+pub valid_parts : (t : Topology) → All (λ e. e.0 < e.1) t.edges → All (λ e. e.1 < t.points) t.edges → AllPairs (λ a b. a ≢ b) t.edges → length t.corner_points ≡ length t.corner_edges
     → All (λ v. v < t.points) t.corner_points → All (λ k. k < length t.edges) t.corner_edges → AreOffsets (length t.corner_points) t.faces
     → AreFaces t.edges t.faces t.corner_points t.corner_edges → IsValid t
 valid_parts t lesser within differ paired points_within edges_within offsets faces =

@@ -1,11 +1,11 @@
 -- The faces of a mesh by the numbers of their vertices and of their edges.
-use Rattle.std.specs.Prelude.{◌≡◌, ℕ, List, ◌∷◌, map, slice_range}
+use Rattle.std.specs.Prelude.{◌≡◌, ◌≢◌, ℕ, List, ◌∷◌, map, AllPairs, slice_range}
 use Rattle.gn_plain.specs.Edges.{edges_around}
-use Rattle.gn_plain.specs.Topology.{AllDiffer, edge_at}
+use Rattle.gn_plain.specs.Topology.{edge_at}
 
 -- different vertices, and the edges around them
 abbrev pub IsFace : List (ℕ × ℕ) → List ℕ → List ℕ → Type 0
-IsFace edges vertices corner_edges = AllDiffer vertices × (map (edge_at edges) corner_edges ≡ edges_around vertices)
+IsFace edges vertices corner_edges = AllPairs (λ a b. a ≢ b) vertices × (map (edge_at edges) corner_edges ≡ edges_around vertices)
 
 -- each of the faces that begin at the offsets but the last
 abbrev pub AreFaces : List (ℕ × ℕ) → List ℕ → List ℕ → List ℕ → Type 0

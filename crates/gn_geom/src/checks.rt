@@ -1,7 +1,7 @@
 // Whether lists are the parts of a mesh. Each check looks at a list once.
-ghost use Rattle.std.specs.Prelude.{◌≡◌, ◌↔◌, ◌<◌, ◌≤◌, ◌^◌, ℕ, IsTrue, length, map, All, IfOk, slice_range};
+ghost use Rattle.std.specs.Prelude.{◌≡◌, ◌≢◌, ◌↔◌, ◌<◌, ◌≤◌, ◌^◌, ℕ, IsTrue, length, map, All, AllPairs, IfOk, slice_range};
 ghost use Rattle.gn_plain.specs.Edges.{edges_around};
-ghost use Rattle.gn_plain.specs.Topology.{AllDiffer, AreOffsets, IsNumbered, IsValid, edge_at};
+ghost use Rattle.gn_plain.specs.Topology.{AreOffsets, IsNumbered, IsValid, edge_at};
 ghost use Rattle.gn_geom.specs.Faces.{AreFaces, IsFace};
 
 use gn_edges::{Edges, edge_between};
@@ -31,7 +31,7 @@ pub(crate) fn are_below(numbers: &[u32], count: usize) -> bool
 
 /// Whether no edge is there twice.
 pub(crate) fn edges_differ(alloc: Global, edges: &[(u32, u32)]) -> Result<bool, Memory>
-    ensures { IfOk result (λ b. IsTrue b ↔ AllDiffer edges.now) }
+    ensures { IfOk result (λ b. IsTrue b ↔ AllPairs (λ a b. a ≢ b) edges.now) }
 {
     let mut seen = Edges::new(alloc);
     for edge in edges {
@@ -66,7 +66,7 @@ pub(crate) fn are_offsets(offsets: &[u32], count: usize) -> bool
 fn differ(vertices: &[u32], marks: &mut [u32], number: u32) -> bool
     requires within { All (λ v. v < length marks.old) vertices.now }
     requires unmarked { All (λ m. m < number) marks.old }
-    ensures differ { IsTrue result ↔ AllDiffer vertices.now }
+    ensures differ { IsTrue result ↔ AllPairs (λ a b. a ≢ b) vertices.now }
     ensures marked { All (λ m. m ≤ number) marks.new }
 {
     for vertex in vertices {
