@@ -18,7 +18,7 @@ use crate::operations::{
 use crate::random::{random_fixed, random_int, random_truth, random_vector};
 use crate::selection::select;
 use gn_value::op::{CompareKind, MixKind, Op, Register};
-use gn_value::{Fx, V3, ValueKind};
+use gn_value::{Fx, V3};
 
 /// Sets each position of `into` to what the operation gives at that position of the registers that
 /// `args` names, in order. These registers are as long as `into` and have the kinds that the
@@ -60,16 +60,9 @@ fn many_truths(op: Op, args: &Arguments, into: &mut [bool])
             kind: CompareKind::Fixed,
             op,
         } => compare_lists::<Fx>(op, args, into),
-        Op::RandomValue {
-            kind: ValueKind::Truth,
-        } => each_three(args, into, random_truth),
-        Op::Convert {
-            to: ValueKind::Truth,
-        } => convert_lists(args, into),
-        Op::Select {
-            kind: ValueKind::Truth,
-            cases,
-        } => select(cases, args, into),
+        Op::RandomValue { .. } => each_three(args, into, random_truth),
+        Op::Convert { .. } => convert_lists(args, into),
+        Op::Select { cases, .. } => select(cases, args, into),
         Op::VectorMath { .. } | Op::Mix { .. } => {}
         // No other operation gives such values.
         _ => {}
@@ -87,14 +80,9 @@ fn many_integers(op: Op, args: &Arguments, into: &mut [i32])
     match op {
         Op::IntegerMath { op } => integer_lists(op, args, into),
         Op::FloatToInteger { op } => round_lists(op, args, into),
-        Op::RandomValue {
-            kind: ValueKind::Int,
-        } => each_four(args, into, random_int),
-        Op::Convert { to: ValueKind::Int } => convert_lists(args, into),
-        Op::Select {
-            kind: ValueKind::Int,
-            cases,
-        } => select(cases, args, into),
+        Op::RandomValue { .. } => each_four(args, into, random_int),
+        Op::Convert { .. } => convert_lists(args, into),
+        Op::Select { cases, .. } => select(cases, args, into),
         Op::VectorMath { .. } | Op::Mix { .. } => {}
         // No other operation gives such values.
         _ => {}
@@ -122,16 +110,9 @@ fn many_numbers(op: Op, args: &Arguments, into: &mut [Fx])
             kind: MixKind::Fixed,
         } => each_three(args, into, mix),
         Op::SeparateXyz { axis } => component_lists(axis, args, into),
-        Op::RandomValue {
-            kind: ValueKind::Fixed,
-        } => each_four(args, into, random_fixed),
-        Op::Convert {
-            to: ValueKind::Fixed,
-        } => convert_lists(args, into),
-        Op::Select {
-            kind: ValueKind::Fixed,
-            cases,
-        } => select(cases, args, into),
+        Op::RandomValue { .. } => each_four(args, into, random_fixed),
+        Op::Convert { .. } => convert_lists(args, into),
+        Op::Select { cases, .. } => select(cases, args, into),
         // No other operation gives such values.
         _ => {}
     }
@@ -151,16 +132,9 @@ fn many_vectors(op: Op, args: &Arguments, into: &mut [V3])
             kind: MixKind::Vector,
         } => each_three(args, into, mix_vectors),
         Op::CombineXyz => each_three(args, into, combine),
-        Op::RandomValue {
-            kind: ValueKind::Vector,
-        } => each_four(args, into, random_vector),
-        Op::Convert {
-            to: ValueKind::Vector,
-        } => convert_lists(args, into),
-        Op::Select {
-            kind: ValueKind::Vector,
-            cases,
-        } => select(cases, args, into),
+        Op::RandomValue { .. } => each_four(args, into, random_vector),
+        Op::Convert { .. } => convert_lists(args, into),
+        Op::Select { cases, .. } => select(cases, args, into),
         // No other operation gives such values.
         _ => {}
     }
