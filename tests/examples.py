@@ -1,5 +1,5 @@
 #!/usr/bin/env python3
-"""Runs each tree that examples/README.md lists, and compares with what stands there.
+"""Runs each tree that examples/README.md lists, and compares with what stands there; then words that come to other ends.
 
     python3 tests/examples.py
 """
@@ -15,6 +15,19 @@ PROGRAM = os.path.join(TOP, "bin", "geonodes")
 TIMES = {"three": 3}
 # Trees that are well formed and not evaluated yet.
 WAITING = ["waves.json"]
+# Words with the status and the line that they come to, which must stand on standard error.
+OTHER_ENDS = [
+    ([], 2, b"usage: more words expected"),
+    (["eval", "lift.json"], 2, b"usage: more words expected"),
+    (["eval", "lift.json", "triangle.obj", "--fast"], 2, b"usage: unexpected --fast"),
+    ([b"foo", b"\xff"], 2, b"usage: unexpected foo"),
+    ([b"--help", b"\xff"], 2, b"usage: unexpected \xff"),
+    ([b"x" * 5000 + b"\xff"], 2, b"usage: unexpected " + b"x" * 5000 + b"\xff"),
+    (["check", "no such tree"], 3, b"absent: no such tree"),
+    (["eval", "lift.json", "no such mesh"], 3, b"absent: no such mesh"),
+    (["check", "."], 4, b"read fault: ."),
+    (["eval", os.path.join("refused", "f1.json"), "."], 7, b"tree form: F1 at /nodes/0/set/value"),
+]
 
 
 def rows(page):
@@ -33,20 +46,27 @@ def lines_of(cell):
     return "".join(found).encode()
 
 
-def run(*words):
-    done = subprocess.run([PROGRAM, *words], cwd=EXAMPLES, capture_output=True, timeout=7200)
+def run(words, output=subprocess.PIPE):
+    done = subprocess.run([PROGRAM, *words], cwd=EXAMPLES, stdout=output, stderr=subprocess.PIPE, timeout=7200)
     return done.returncode, done.stdout, done.stderr
 
 
-def compare(words, want):
-    got = run(*words)
+def compare(words, want, output=subprocess.PIPE):
+    got = run(words, output)
     if got != want:
-        print(f"{' '.join(words)}: expected {want}, got {got}")
+        print(f"{words}: expected {want}, got {got}")
     return got == want
 
 
+def compare_full():
+    """A run whose output takes no byte."""
+    with open("/dev/full", "wb") as full:
+        line = b"geonodes: write fault after 0 bytes\n"
+        return compare(["eval", "lift.json", "triangle.obj"], (5, None, line), full)
+
+
 def main():
-    run("--version")
+    run(["--version"])
     with open(os.path.join(EXAMPLES, "README.md"), encoding="utf-8") as file:
         good, refused = file.read().split("## Trees that are refused")
     trees = list(rows(good))
@@ -62,6 +82,9 @@ def main():
         want = (status, b"", f"geonodes: {line.strip('`')}\n".encode())
         path = os.path.join("refused", tree)
         results += [compare(("check", path), want), compare(("eval", path, "triangle.obj"), want)]
+    for words, status, line in OTHER_ENDS:
+        results.append(compare(words, (status, b"", b"geonodes: " + line + b"\n")))
+    results.append(compare_full())
     print(f"{results.count(True)} examples as stated, {results.count(False)} not")
     return 0 if all(results) else 1
 

@@ -248,3 +248,22 @@ fn tells_the_first_bad_line(rt: HostRuntime) {
         }
     }
 }
+
+#[test]
+fn what_is_written_is_read_again(rt: HostRuntime) -> Result<(), Fail> {
+    let alloc = rt.alloc();
+    let flag = flag(&rt, alloc)?;
+    let mut out = MemSink::new(alloc, Vec::new(alloc), 100)?;
+    assert_eq!(rt; write_obj(&flag, &mut out), Put::All);
+    let Ok(again) = read_obj(alloc, out.held()) else {
+        panic!(rt; "no mesh");
+    };
+    assert_eq!(rt; again.points(), flag.mesh.points());
+    let (read, written) = (again.topology(), flag.mesh.topology());
+    assert_eq!(rt; read.points, written.points);
+    assert_eq!(rt; read.edges, written.edges);
+    assert_eq!(rt; read.faces, written.faces);
+    assert_eq!(rt; read.corner_points, written.corner_points);
+    assert_eq!(rt; read.corner_edges, written.corner_edges);
+    Ok(())
+}
