@@ -85,10 +85,10 @@ tree_data = object (member (codes "format") (number (unsigned 1)) (member (codes
 
 abbrev up : Node
 up = node (codes "up") (codes "set_position") no_settings (
-  record { name = codes "geometry"; input = link (record { from = codes "input"; socket = codes "geometry" }) }
-  ∷ record { name = codes "offset"; input = constant (vector (v3 (pos 0) (pos 0) (pos 4294967296))) }
-  ∷ []
-)
+    record { name = codes "geometry"; input = link (record { from = codes "input"; socket = codes "geometry" }) }
+    ∷ record { name = codes "offset"; input = constant (vector (v3 (pos 0) (pos 0) (pos 4294967296))) }
+    ∷ []
+    )
 
 abbrev lifting : Tree
 lifting = record {
@@ -161,17 +161,17 @@ planned : IsPlan lifting move
 unfolding row_of_kind table values functions elsewhere attributes geometry_kinds instance_kinds groups
 planned =
     gives_moved the_tree 0 lift true None (v3 (pos 0) (pos 0) (pos 4294967296)) (1, refl) refl (
-      record {
-        kind = refl;
-        geometry = (1, refl);
-        selections = 0;
-        positions = 0;
-        offsets = 0;
-        selection = (truth true, [], (1, refl), refl, refl);
-        position = ((1, refl), refl);
-        offset = (vector (v3 (pos 0) (pos 0) (pos 4294967296)), [], (1, refl), refl, refl);
-        few = omega arith;
-      }
+    record {
+      kind = refl;
+      geometry = (1, refl);
+      selections = 0;
+      positions = 0;
+      offsets = 0;
+      selection = (truth true, [], (1, refl), refl, refl);
+      position = ((1, refl), refl);
+      offset = (vector (v3 (pos 0) (pos 0) (pos 4294967296)), [], (1, refl), refl, refl);
+      few = omega arith;
+    }
     )
 
 formed : HasForm lifting
