@@ -14,7 +14,7 @@ use Rattle.gn_value.specs.Values.{v3}
 use Rattle.gn_value.specs.declared.value.Value.TheVariants.{Vector as vector}
 use Rattle.gn_decimal.specs.Decimal.{nearest, small_number, signed_exponent, exponent_of, parts_of, units, raw_of, magnitude_of, num, dec, fraction_digits}
 use Rattle.gn_lines.specs.Lines.{lines}
-use Rattle.gn_pointers.specs.Pointers.{Pointer, key, IsFirst}
+use Rattle.gn_pointers.specs.Pointers.{IsFirst}
 use Rattle.gn_tree.specs.Trees.{constant, link, node, no_settings, no_nodes, and_node, Tree}
 use Rattle.gn_tree.specs.Rising.{NamesRiseInTree}
 use Rattle.gn_form.specs.Form.{a_tree, BreaksForm}
@@ -27,8 +27,7 @@ use Rattle.gn_rules.specs.Rules.{KeepsRules}
 use Rattle.gn_rules.specs.Walk.{named, Tells}
 use Rattle.gn_rules.proofs.Named.{named_tells}
 use Rattle.gn_cycle.specs.Ways.{is_on_cycle}
-use Rattle.gn_plain.specs.Geometry.{Corner, Shape, of_shape}
-use Rattle.gn_plain.specs.Edges.{Edge}
+use Rattle.gn_plain.specs.Geometry.{Shape, of_shape}
 use Rattle.gn_rows.specs.Limits.{is_large}
 use Rattle.gn_plans.specs.Plans.{Plan, a_move, plan_for}
 use Rattle.gn_plan_laws.specs.Made.{made}
@@ -82,10 +81,10 @@ lifting = record {
   format = 1;
   groups = [];
   nodes = and_node (node (codes "up") (codes "set_position") no_settings (
-    record { name = codes "geometry"; input = link (record { from = codes "input"; socket = codes "geometry" }) }
-    ∷ record { name = codes "offset"; input = constant (vector (v3 (pos 0) (pos 0) (pos 4294967296))) }
-    ∷ []
-  )) no_nodes;
+      record { name = codes "geometry"; input = link (record { from = codes "input"; socket = codes "geometry" }) }
+      ∷ record { name = codes "offset"; input = constant (vector (v3 (pos 0) (pos 0) (pos 4294967296))) }
+      ∷ []
+      )) no_nodes;
   output = Some (link (record { from = codes "up"; socket = codes "geometry" }));
 }
 
