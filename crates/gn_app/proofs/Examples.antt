@@ -1,5 +1,5 @@
 -- Commands, ends and what files lead to, by computation.
-use Rattle.std.proofs.Common.{◌≡◌, ◌≤◌, List, [], ◌∷◌, ◌++◌, Some, None, Ok, Err, codes, refl, ap, option_map, inl, arith}
+use Rattle.std.proofs.Common.{◌≡◌, List, [], ◌∷◌, ◌++◌, Some, None, Ok, Err, codes, refl, ap, option_map, inl, arith}
 use Rattle.gn_io.specs.Files.{absent, too_long}
 use Rattle.gn_app.specs.declared.status.Status.TheVariants.{TreeForm}
 use Rattle.gn_app.specs.Status.{code_of}

@@ -14,7 +14,7 @@ use Rattle.gn_value.specs.Values.{v3}
 use Rattle.gn_value.specs.declared.value.Value.TheVariants.{Truth as truth, Vector as vector}
 use Rattle.gn_decimal.specs.Decimal.{nearest, small_number, signed_exponent, exponent_of, parts_of, units, raw_of, magnitude_of, num, dec, fraction_digits}
 use Rattle.gn_lines.specs.Lines.{lines}
-use Rattle.gn_pointers.specs.Pointers.{Pointer, key, IsFirst}
+use Rattle.gn_pointers.specs.Pointers.{IsFirst}
 use Rattle.gn_tree.specs.Trees.{constant, link, Node, node, no_settings, no_nodes, and_node, Tree}
 use Rattle.gn_tree.specs.Rising.{NamesRiseInTree}
 use Rattle.gn_form.specs.Form.{a_tree, BreaksForm}
@@ -28,8 +28,7 @@ use Rattle.gn_rules.specs.Rules.{KeepsRules}
 use Rattle.gn_rules.specs.Walk.{named, Tells}
 use Rattle.gn_rules.proofs.Named.{named_tells}
 use Rattle.gn_cycle.specs.Ways.{is_on_cycle}
-use Rattle.gn_plain.specs.Geometry.{Corner, Shape, of_shape}
-use Rattle.gn_plain.specs.Edges.{Edge}
+use Rattle.gn_plain.specs.Geometry.{Shape, of_shape}
 use Rattle.gn_rows.specs.Limits.{is_large}
 use Rattle.gn_rules.specs.Scopes.{tree_scope}
 use Rattle.gn_meaning.specs.Bodies.{kind_in}
