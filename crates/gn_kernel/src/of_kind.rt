@@ -25,6 +25,7 @@ pub trait OfKind: Copy {
     // what a value of the kind holds; the zero where it is of another
     ghost in_value: { Value → Self };
 
+    // false, 0, or 0 in each component
     ghost zero: { Self };
 
     /// The value that this is.
@@ -41,6 +42,7 @@ pub trait OfKind: Copy {
         ensures values { register_kind register.now ≡ KIND → (k : ℕ) (v : Self) → k < length result.now →
             slice_index_or result.now k v ≡ in_value (register_value k register.now) };
 
+    // a value of the kind is what it holds, as a value
     ghost same: { (v : Value) → kind_of v ≡ KIND → as_value (in_value v) ≡ v };
 }
 
