@@ -28,6 +28,3 @@ mod status;
 pub use command::{run, run_alone};
 pub use refusal::{refuse_stray, refuse_unread};
 pub use status::Status;
-
-#[cfg(test)]
-mod tests;

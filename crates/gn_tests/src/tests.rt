@@ -1,4 +1,4 @@
-use super::*;
+use gn_app::{Status, refuse_stray, run, run_alone};
 use gn_io::{MemShelf, MemSink, OpenGate};
 use gn_shared::Meter;
 use std::alloc::Global;
