@@ -1,5 +1,5 @@
 -- The way through nodes and zones, step by step.
-use Rattle.std.proofs.Common.{◌≡◌, ℕ, suc, ◌+◌, ◌<◌, Bool, true, false, List, [], map, codes, length, get_or, drop, Option, Some, None, Result, Ok, Err, IfOk, option_map, refl, sym, ap, ◌∙◌, arith}
+use Rattle.std.proofs.Common.{◌≡◌, ℕ, suc, ◌+◌, ◌<◌, Bool, true, false, List, [], map, codes, length, get_or, drop, Option, Some, None, Result, Ok, Err, option_map, refl, sym, ap, ◌∙◌, arith}
 use Rattle.std.specs.Prelude.{is_some}
 use Rattle.std.specs.Option.{option_map_or}
 use Rattle.std.specs.declared.alloc.Global.{Global}
@@ -21,8 +21,9 @@ use Rattle.gn_rules.specs.declared.shape.Shape.{Shape}
 use Rattle.gn_rules.specs.Things.{all_nodes}
 use Rattle.gn_rules.specs.Walk.{breaks, breaks_node, in_group_name, in_node, in_settings, first_node, in_sockets, in_given_out, first_input, in_group, first_group, this_or, in_input, in_output, breaks_all}
 use Rattle.gn_rules.specs.Sockets.{Declared, one_of, inputs_of}
-use Rattle.gn_check.specs.Nodes.{settings_in, inputs_in}
-use Rattle.gn_check.specs.Settings.{group_set, zone_set}
+use Rattle.gn_scopes.specs.Nodes.{settings_in, inputs_in}
+use Rattle.gn_scopes.specs.Settings.{group_set, zone_set}
+use Rattle.gn_check.specs.Finds.{Finds}
 use Rattle.gn_check.specs.Zones.{in_inputs_of_node, in_zone, in_body}
 
 abbrev pub Found : Type 0
@@ -31,11 +32,7 @@ Found = Option (VecDeque CodeStep Global)
 abbrev pub Answer : Type 0
 Answer = Result Found Memory
 
--- an answer is a pointer
-abbrev pub Is : Answer → Option Pointer → Type 0
-Is r pointer = IfOk r (λ found. option_map pointer_of found ≡ pointer)
-
-pub is_same : (r : Answer) (x y : Option Pointer) → x ≡ y → Is r x → Is r y
+pub is_same : (r : Answer) (x y : Option Pointer) → x ≡ y → Finds r x → Finds r y
 is_same (Ok found) x y e h = h ∙ e
 is_same (Err m) x y e h = tt
 
@@ -48,13 +45,13 @@ next_goes k None rest h = refl
 next_goes k (Some pointer) rest h = absurd (cc)
 
 -- what was found in the first of two parts, or in the second where nothing was found in the first
-pub in_first : (k : Step) (found : Found) (first rest all : Option Pointer) (r : Answer) → is_some found ≡ true → option_map pointer_of found ≡ first → all ≡ joined k first rest → Is r (joined k (option_map pointer_of found) None) → Is r all
+pub in_first : (k : Step) (found : Found) (first rest all : Option Pointer) (r : Answer) → is_some found ≡ true → option_map pointer_of found ≡ first → all ≡ joined k first rest → Finds r (joined k (option_map pointer_of found) None) → Finds r all
 in_first k found first rest all r h e a i = is_same r (joined k (option_map pointer_of found) None) all (first_wins k found rest h ∙ (ap (λ x. joined k x rest) e ∙ sym a)) i
 
-pub in_rest : (k : Step) (found : Found) (first rest all : Option Pointer) (r : Answer) → is_some found ≡ false → option_map pointer_of found ≡ first → all ≡ joined k first rest → Is r rest → Is r all
+pub in_rest : (k : Step) (found : Found) (first rest all : Option Pointer) (r : Answer) → is_some found ≡ false → option_map pointer_of found ≡ first → all ≡ joined k first rest → Finds r rest → Finds r all
 in_rest k found first rest all r h e a i = is_same r rest all (next_goes k found rest h ∙ (ap (λ x. joined k x rest) e ∙ sym a)) i
 
-pub in_last : (k : Step) (found : Found) (last : Option Pointer) (r : Answer) → option_map pointer_of found ≡ last → Is r (joined k (option_map pointer_of found) None) → Is r (joined k last None)
+pub in_last : (k : Step) (found : Found) (last : Option Pointer) (r : Answer) → option_map pointer_of found ≡ last → Finds r (joined k (option_map pointer_of found) None) → Finds r (joined k last None)
 in_last k found last r e i = is_same r (joined k (option_map pointer_of found) None) (joined k last None) (ap (λ x. joined k x None) e) i
 
 -- ---- nodes

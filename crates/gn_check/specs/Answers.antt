@@ -1,4 +1,4 @@
--- What checking a tree says.
+-- What `check` returns.
 use Rattle.std.specs.Prelude.{◌≡◌, Result, Ok, Err, string_bytes}
 use Rattle.gn_pointers.specs.Pointers.{Pointer}
 use Rattle.gn_pointers.specs.Texts.{pointer_text}
@@ -14,7 +14,7 @@ use Rattle.gn_check.specs.declared.fault.CheckFault.TheVariants as fault
 abbrev pub tree_in : GoodTree → trees.Tree
 tree_in good = tree_of good.tree
 
--- the tree keeps the rules; or the least one that it breaks is named, with the first pointer
+-- the tree keeps the rules; or the fault names the least one that it breaks, with the first pointer where it does
 abbrev pub Answers : trees.Tree → Result GoodTree CheckFault → Type 0
 Answers tree (Ok good) = (tree_in good ≡ tree) × KeepsRules tree
 Answers tree (Err (fault.Form text number)) = (r : Rule) × (pointer : Pointer) × (number ≡ number_of r) × (string_bytes text ≡ pointer_text pointer) × IsNamed tree r pointer

@@ -1,7 +1,3 @@
-pub mod Settings
-pub mod Groups
-pub mod Nodes
-pub mod Scopes
-pub mod Seen
+pub mod Finds
 pub mod Zones
 pub mod Answers

@@ -1,21 +1,16 @@
-ghost use Rattle.std.specs.Prelude.{◌≡◌, ◌||◌, IfOk, IsTrue, map, false, is_none, nat_lt};
+ghost use Rattle.std.specs.Prelude.{◌≡◌, ◌||◌, IfOk, map, false, is_none, nat_lt};
 ghost use Rattle.std.specs.Option.{option_map_or};
-ghost use Rattle.gn_cycle.specs.Ways.{is_on_cycle};
-ghost use Rattle.gn_rules.specs.declared.rule.Rule.TheVariants as named;
 ghost use Rattle.std.specs.List.{list_any};
 ghost use Rattle.gn_tree.specs.Seen.{input_of, link_of, tree_of};
 ghost use Rattle.gn_rules.specs.Rules as rules;
-ghost use Rattle.gn_rules.specs.Sought.{has};
 ghost use Rattle.gn_rules.specs.Walk as walk;
-ghost use Rattle.gn_check.specs.Seen.{scope_of};
+ghost use Rattle.gn_scopes.specs.Seen.{scope_of};
 
-use crate::groups::Groups;
-use crate::scope::{Scope, id_of, settings_of};
-use crate::setting::is_zone;
 use gn_kinds::SocketKind;
 use gn_memory::Memory;
 use gn_names::Names;
 use gn_rules::{Rule, Shape, Sought};
+use gn_scopes::{Groups, Scope, id_of, is_zone, settings_of};
 use gn_tree::{Node, Tree, TreeInput, TreeLink};
 use gn_value::Value;
 use std::alloc::Global;
@@ -123,7 +118,7 @@ fn any_clashes(scope: &Scope<'_, '_>, kind: SocketKind, links: &[TreeLink]) -> b
     false
 }
 
-/// Whether the input is none for a socket that carries this.
+/// Whether the input doesn't fit a socket of that shape.
 fn is_unfit(scope: &Scope<'_, '_>, shape: Shape, input: &TreeInput) -> bool
     ensures { result ≡ rules.is_unfit (scope_of scope.now) shape (input_of input.now) }
 {
@@ -150,7 +145,7 @@ fn names_nothing(scope: &Scope<'_, '_>, shape: Option<Shape>, input: &TreeInput)
     shape.is_none() || is_loose(scope, input)
 }
 
-/// Whether the input breaks a rule by itself, at a socket that carries this, if there is one.
+/// Whether the input breaks a rule by itself, at a socket of that shape or where there is no socket.
 pub(crate) fn input_breaks(scope: &Scope<'_, '_>, shape: Option<Shape>, input: &TreeInput) -> bool
     ensures { result ≡ walk.breaks_input scope.now.sought (scope_of scope.now) shape (input_of input.now) }
 {
@@ -166,13 +161,6 @@ fn is_too_high(scope: &Scope<'_, '_>, node: &Node) -> bool
     ensures { result ≡ rules.is_too_high (scope_of scope.now) node.now }
 {
     is_zone(settings_of(node)) && scope.groups.measures.is_higher(scope.above, node, 2)
-}
-
-fn is_on_cycle(alloc: Global, scope: &Scope<'_, '_>, number: usize) -> Result<bool, Memory>
-    requires { IsTrue (has scope.now.sought named.Order) }
-    ensures { IfOk result (λ found. found ≡ is_on_cycle (rules.graph_of (scope_of scope.now).nodes) number) }
-{
-    scope.graph.is_on_cycle(alloc, number)
 }
 
 /// Whether the node with that number breaks a rule by itself.
@@ -191,7 +179,7 @@ pub(crate) fn node_breaks(
         return Ok(true);
     }
     if scope.sought.has(Rule::Order) {
-        return is_on_cycle(alloc, scope, number);
+        return scope.is_on_cycle(alloc, number);
     }
     Ok(false)
 }

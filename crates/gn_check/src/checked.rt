@@ -8,11 +8,11 @@ ghost use Rattle.gn_check.specs.Answers.{Answers};
 
 use crate::fault::CheckFault;
 use crate::good::GoodTree;
-use crate::groups::Groups;
 use crate::walk::in_tree;
 use gn_memory::Memory;
 use gn_pointers::{Step, pointer_string};
 use gn_rules::{Rule, Sought};
+use gn_scopes::Groups;
 use gn_tree::Tree;
 use std::alloc::Global;
 use std::collections::VecDeque;

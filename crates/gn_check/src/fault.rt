@@ -3,8 +3,8 @@ use thiserror::Error;
 /// Why a tree is not well formed.
 #[derive(Debug, Drop, Error)]
 pub enum CheckFault {
-    /// The rule with that number behind `F` is the least that the tree breaks, and the place, a JSON
-    /// Pointer, the first where it does.
+    /// The tree breaks the rule `F` with that number and none with a lesser one. The place is a JSON
+    /// Pointer, the first at which the tree breaks that rule.
     #[error("F{rule} at {place}")]
     Form { place: String, rule: u8 },
     /// There was no memory.

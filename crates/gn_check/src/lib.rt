@@ -2,21 +2,15 @@
 //!
 //! `check` takes a tree that is of its form and promises the least rule that it breaks with the first
 //! pointer where it does, or a `GoodTree`, which is of its form and keeps all of them. It goes through
-//! the tree once with all rules, and again rule by rule only where one is broken. Names are looked up in
-//! a map that is made for each list: no link and no key costs a walk over a list. It stands on the rules
-//! of `gn_rules`, on the trees of `gn_tree`, on the look-ups of `gn_names`, the search of `gn_cycle` and
-//! the measures of `gn_measure`.
+//! the tree once with all rules, and again rule by rule only where one is broken. It stands on the rules
+//! of `gn_rules`, on the trees of `gn_tree`, and on the scopes of `gn_scopes`, in which each list of nodes
+//! has its names looked up.
 #![tactic(auto)]
 
 mod broken;
 mod checked;
-mod edges;
 mod fault;
 mod good;
-mod groups;
-mod scope;
-mod setting;
-mod sockets;
 mod walk;
 
 pub use checked::check;

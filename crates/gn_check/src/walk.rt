@@ -1,31 +1,33 @@
-ghost use Rattle.std.specs.Prelude.{◌≡◌, None, Some, [], IfOk, map, option_map, slice_get};
+ghost use Rattle.std.specs.Prelude.{◌≡◌, None, Some, [], map, option_map, slice_get};
 ghost use Rattle.gn_pointers.specs.Pointers.{key, index, joined};
 ghost use Rattle.gn_pointers.specs.Seen.{step_of, pointer_of};
-ghost use Rattle.gn_tree.specs.Seen.{group_of, input_of, link_of, named_of, nodes_of, settings_of, socket_of, tree_of};
+ghost use Rattle.gn_tree.specs.Seen.{group_of, input_of, link_of, named_of, nodes_of, settings_of};
+ghost use Rattle.gn_tree.specs.Seen.{tree_of};
 ghost use Rattle.gn_rules.specs.Walk as walk;
 ghost use Rattle.gn_rules.specs.Walk.{breaks};
-ghost use Rattle.gn_check.specs.Scopes.{declared_by};
-ghost use Rattle.gn_check.specs.Seen.{scope_of};
+ghost use Rattle.gn_scopes.specs.Groups.{sockets_in};
+ghost use Rattle.gn_scopes.specs.Scopes.{declared_by};
+ghost use Rattle.gn_scopes.specs.Seen.{groups_in};
+ghost use Rattle.gn_check.specs.Finds.{Finds, in_scope};
 ghost use Rattle.gn_check.specs.Zones.{in_inputs_of_node, in_zone, in_results, in_parts, in_body};
 
 use crate::broken::{
     group_name_breaks, input_breaks, link_breaks, name_breaks, node_breaks, tree_breaks,
 };
-use crate::groups::Groups;
-use crate::scope::{Entries, Inputs, Scope, inputs_of, settings_of};
-use crate::setting::{group_set, zone_set};
-use crate::sockets::{Sockets, single};
 use gn_kinds::SocketKind;
 use gn_memory::Memory;
 use gn_pointers::Step;
 use gn_rules::{Shape, Sought};
+use gn_scopes::{
+    Entries, Groups, Inputs, Scope, Sockets, group_set, inputs_of, settings_of, single, zone_set,
+};
 use gn_tree::{Group, Node, Setting, Tree, TreeInput, TreeLink, Zone};
 use std::alloc::Global;
 use std::collections::VecDeque;
 
-/// A pointer that was found under that number of an array.
+/// Puts the step to the item with that number in front of a pointer that was found in the item.
 fn at_number(found: Option<VecDeque<Step>>, number: usize) -> Result<Option<VecDeque<Step>>, Memory>
-    ensures { IfOk result (λ pointer. option_map pointer_of pointer ≡ joined (index number) (option_map pointer_of found) None) }
+    ensures { Finds result (joined (index number) (option_map pointer_of found) None) }
 {
     match found {
         Some(mut pointer) => {
@@ -36,13 +38,13 @@ fn at_number(found: Option<VecDeque<Step>>, number: usize) -> Result<Option<VecD
     }
 }
 
-/// A pointer that was found under that key of an object.
+/// Puts the step to the member with that key in front of a pointer that was found in the member.
 fn at_key(
     alloc: Global,
     found: Option<VecDeque<Step>>,
     name: &str,
 ) -> Result<Option<VecDeque<Step>>, Memory>
-    ensures { IfOk result (λ pointer. option_map pointer_of pointer ≡ joined (key name.now) (option_map pointer_of found) None) }
+    ensures { Finds result (joined (key name.now) (option_map pointer_of found) None) }
 {
     match found {
         Some(mut pointer) => {
@@ -65,8 +67,7 @@ fn first_link(
     scope: &Scope<'_, '_>,
     links: &[TreeLink],
 ) -> Result<Option<VecDeque<Step>>, Memory>
-    ensures { IfOk result (λ pointer. option_map pointer_of pointer
-        ≡ walk.first_link (breaks scope.now.sought) (scope_of scope.now) 0 (map link_of links.now)) }
+    ensures { Finds result (in_scope walk.first_link scope.now 0 (map link_of links.now)) }
 {
     let mut number: usize = 0;
     for link in links {
@@ -84,8 +85,7 @@ fn in_input(
     shape: Option<Shape>,
     input: &TreeInput,
 ) -> Result<Option<VecDeque<Step>>, Memory>
-    ensures { IfOk result (λ pointer. option_map pointer_of pointer
-        ≡ walk.in_input (breaks scope.now.sought) (scope_of scope.now) shape (input_of input.now)) }
+    ensures { Finds result (in_scope walk.in_input scope.now shape (input_of input.now)) }
 {
     if input_breaks(scope, shape, input) {
         return Ok(here(alloc));
@@ -97,15 +97,15 @@ fn in_input(
     }
 }
 
-/// The first pointer among inputs under the names of sockets, of which these are declared.
+/// The first pointer among inputs under the names of sockets, where these sockets are declared.
 fn first_input(
     alloc: Global,
     scope: &Scope<'_, '_>,
     declared: &Inputs<'_, '_>,
     inputs: &[(String, TreeInput)],
 ) -> Result<Option<VecDeque<Step>>, Memory>
-    ensures { IfOk result (λ pointer. option_map pointer_of pointer
-        ≡ walk.first_input (breaks scope.now.sought) (scope_of scope.now) (declared_by declared.now) (map named_of inputs.now)) }
+    ensures { Finds result
+        (in_scope walk.first_input scope.now (declared_by declared.now) (map named_of inputs.now)) }
 {
     for (name, input) in inputs {
         let found = in_input(alloc, scope, declared.find(name), input)?;
@@ -116,21 +116,17 @@ fn first_input(
     Ok(None)
 }
 
-/// The first pointer in what is given out by the names of these sockets.
+/// The first pointer in what a list of nodes gives out under the names of these sockets.
 fn in_output(
     alloc: Global,
     scope: &Scope<'_, '_>,
     sockets: &Sockets<'_>,
     output: &[(String, TreeInput)],
 ) -> Result<Option<VecDeque<Step>>, Memory>
-    ensures { IfOk result (λ pointer. option_map pointer_of pointer
-        ≡ walk.in_given_out (breaks scope.now.sought) (scope_of scope.now) (map socket_of sockets.now.list.now) (map named_of output.now)) }
+    ensures { Finds result
+        (in_scope walk.in_given_out scope.now (sockets_in sockets.now) (map named_of output.now)) }
 {
-    let declared = Inputs {
-        rows: &[],
-        chosen: SocketKind::Geometry,
-        others: &*sockets,
-    };
+    let declared = Inputs::of_sockets(sockets);
     first_input(alloc, scope, &declared, output)
 }
 
@@ -139,8 +135,7 @@ fn in_sockets(
     sought: Sought,
     sockets: &Sockets<'_>,
 ) -> Result<Option<VecDeque<Step>>, Memory>
-    ensures { IfOk result (λ pointer. option_map pointer_of pointer
-        ≡ walk.in_sockets (breaks sought) (map socket_of sockets.now.list.now)) }
+    ensures { Finds result (walk.in_sockets (breaks sought) (sockets_in sockets.now)) }
 {
     let mut number: usize = 0;
     for socket in sockets.list {
@@ -157,8 +152,7 @@ fn in_group_name(
     scope: &Scope<'_, '_>,
     name: &str,
 ) -> Result<Option<VecDeque<Step>>, Memory>
-    ensures { IfOk result (λ pointer. option_map pointer_of pointer
-        ≡ walk.in_group_name (breaks scope.now.sought) (scope_of scope.now) name.now) }
+    ensures { Finds result (in_scope walk.in_group_name scope.now name.now) }
 {
     if group_name_breaks(scope, name) {
         return at_key(alloc, here(alloc), "group");
@@ -169,8 +163,8 @@ fn in_group_name(
 /// The first pointer in a list of nodes.
 #[cycle(walk)]
 fn first_node(alloc: Global, scope: &Scope<'_, '_>) -> Result<Option<VecDeque<Step>>, Memory>
-    ensures { IfOk result (λ pointer. option_map pointer_of pointer
-        ≡ walk.first_node (breaks scope.now.sought) (scope_of scope.now) 0 (nodes_of scope.now.nodes.now.items)) }
+    ensures { Finds result
+        (in_scope walk.first_node scope.now 0 (nodes_of scope.now.nodes.now.items)) }
 {
     let mut number: usize = 0;
     for node in scope.nodes {
@@ -191,7 +185,7 @@ fn in_inputs(
     node: &Node,
 ) -> Result<Option<VecDeque<Step>>, Memory>
     requires { slice_get scope.now.nodes.now.items number ≡ Some node.now }
-    ensures { IfOk result (λ pointer. option_map pointer_of pointer ≡ in_inputs_of_node (breaks scope.now.sought) (scope_of scope.now) node.now) }
+    ensures { Finds result (in_scope in_inputs_of_node scope.now node.now) }
 {
     let declared = scope.inputs_of(number, node);
     first_input(alloc, scope, &declared, inputs_of(node))
@@ -205,7 +199,7 @@ fn in_node<'t>(
     node: &'t Node,
 ) -> Result<Option<VecDeque<Step>>, Memory>
     requires { slice_get scope.now.nodes.now.items number ≡ Some node.now }
-    ensures { IfOk result (λ pointer. option_map pointer_of pointer ≡ walk.in_node (breaks scope.now.sought) (scope_of scope.now) number node.now) }
+    ensures { Finds result (in_scope walk.in_node scope.now number node.now) }
 {
     if node_breaks(alloc, scope, number, node)? {
         return Ok(here(alloc));
@@ -224,8 +218,7 @@ fn in_settings<'t>(
     scope: &Scope<'_, 't>,
     settings: &'t [Setting],
 ) -> Result<Option<VecDeque<Step>>, Memory>
-    ensures { IfOk result (λ pointer. option_map pointer_of pointer
-        ≡ walk.in_settings (breaks scope.now.sought) (scope_of scope.now) (settings_of settings.now)) }
+    ensures { Finds result (in_scope walk.in_settings scope.now (settings_of settings.now)) }
 {
     for setting in settings {
         if let Some(name) = group_set(setting) {
@@ -244,7 +237,7 @@ fn in_zone<'t>(
     scope: &Scope<'_, 't>,
     zone: &'t Zone,
 ) -> Result<Option<VecDeque<Step>>, Memory>
-    ensures { IfOk result (λ pointer. option_map pointer_of pointer ≡ in_zone (breaks scope.now.sought) (scope_of scope.now) zone.now) }
+    ensures { Finds result (in_scope in_zone scope.now zone.now) }
 {
     let items = Sockets::new(alloc, &zone.items)?;
     let found = in_sockets(alloc, scope.sought, &items)?;
@@ -274,7 +267,7 @@ fn in_results(
     scope: &Scope<'_, '_>,
     group: &Group,
 ) -> Result<Option<VecDeque<Step>>, Memory>
-    ensures { IfOk result (λ pointer. option_map pointer_of pointer ≡ in_results (breaks scope.now.sought) (scope_of scope.now) (group_of group.now)) }
+    ensures { Finds result (in_scope in_results scope.now (group_of group.now)) }
 {
     let outputs = Sockets::new(alloc, &group.outputs)?;
     let found = in_output(alloc, scope, &outputs, &group.output)?;
@@ -293,7 +286,8 @@ fn in_parts<'t>(
     number: usize,
     group: &'t Group,
 ) -> Result<Option<VecDeque<Step>>, Memory>
-    ensures { IfOk result (λ pointer. option_map pointer_of pointer ≡ in_parts (breaks sought) (map group_of groups.now.list.now) number (group_of group.now)) }
+    ensures { Finds result
+        (in_parts (breaks sought) (groups_in groups.now) number (group_of group.now)) }
 {
     let inputs = Sockets::new(alloc, &group.inputs)?;
     let found = in_sockets(alloc, sought, &inputs)?;
@@ -316,8 +310,8 @@ fn in_group<'t>(
     number: usize,
     group: &'t Group,
 ) -> Result<Option<VecDeque<Step>>, Memory>
-    ensures { IfOk result (λ pointer. option_map pointer_of pointer
-        ≡ walk.in_group (breaks sought) (map group_of groups.now.list.now) number (group_of group.now)) }
+    ensures { Finds result
+        (walk.in_group (breaks sought) (groups_in groups.now) number (group_of group.now)) }
 {
     if name_breaks(sought, &groups.measures.names, number, &group.name) {
         return Ok(here(alloc));
@@ -330,8 +324,8 @@ fn first_group(
     sought: Sought,
     groups: &Groups<'_>,
 ) -> Result<Option<VecDeque<Step>>, Memory>
-    ensures { IfOk result (λ pointer. option_map pointer_of pointer
-        ≡ walk.first_group (breaks sought) (map group_of groups.now.list.now) 0 (map group_of groups.now.list.now)) }
+    ensures { Finds result
+        (walk.first_group (breaks sought) (groups_in groups.now) 0 (groups_in groups.now)) }
 {
     let mut number: usize = 0;
     for group in groups.list {
@@ -352,7 +346,7 @@ fn in_body<'t>(
     groups: &Groups<'t>,
 ) -> Result<Option<VecDeque<Step>>, Memory>
     requires { groups.now.list.now ≡ tree.now.groups.items }
-    ensures { IfOk result (λ pointer. option_map pointer_of pointer ≡ in_body (breaks sought) (tree_of tree.now)) }
+    ensures { Finds result (in_body (breaks sought) (tree_of tree.now)) }
 {
     let above = groups.list.len();
     let scope = Scope::new(alloc, sought, &tree.nodes, Entries::Tree, groups, above)?;
@@ -378,7 +372,7 @@ pub(crate) fn in_tree<'t>(
     groups: &Groups<'t>,
 ) -> Result<Option<VecDeque<Step>>, Memory>
     requires { groups.now.list.now ≡ tree.now.groups.items }
-    ensures { IfOk result (λ pointer. option_map pointer_of pointer ≡ walk.first_pointer (tree_of tree.now) sought) }
+    ensures { Finds result (walk.first_pointer (tree_of tree.now) sought) }
 {
     let found = first_group(alloc, sought, groups)?;
     if found.is_some() {

@@ -10,7 +10,7 @@ use Rattle.gn_tree.specs.Seen.{nodes_of, socket_of}
 use Rattle.gn_tree.specs.declared.tree.Socket.{Socket as CodeSocket}
 use Rattle.gn_rules.specs.Sockets.{one, one_of, declared, outputs_of, node_at, ids}
 use Rattle.gn_rules.specs.Things.{socket_names}
-use Rattle.gn_check.proofs.Grouping.{node_at_seen}
+use Rattle.gn_scopes.proofs.Grouping.{node_at_seen}
 use Rattle.gn_meaning.specs.Sites.{at_output, at_input, nowhere, Read, plain_read}
 use Rattle.gn_meaning.specs.Reads.{passed, number_in, read_from, link_read, part_in}
 use Rattle.gn_meaning.specs.Forms.{NodeHasForm}

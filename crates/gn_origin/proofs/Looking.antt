@@ -9,7 +9,7 @@ use Rattle.gn_tree.specs.Trees.{Socket, Link, Node}
 use Rattle.gn_rules.specs.Sockets.{single, one_of, declared, ids, node_at}
 use Rattle.gn_rules.specs.Scopes.{Scope}
 use Rattle.gn_rules.specs.Things.{socket_names}
-use Rattle.gn_check.proofs.Finding.{found_by_number, not_found}
+use Rattle.gn_scopes.proofs.Finding.{found_by_number, not_found}
 use Rattle.gn_meaning.specs.Sites.{Way, Site, at_input, nowhere, plain_read}
 use Rattle.gn_meaning.specs.Reads.{passed, number_in, read_from, link_read}
 use Rattle.gn_origin.specs.Reading.{node_read}

@@ -1,7 +1,7 @@
 ghost use Rattle.std.specs.Prelude.{◌≡◌, IfOk, bytes_eq, find, map, option_map};
 ghost use Rattle.gn_tree.specs.Seen.{input_of, link_of, named_of, nodes_of, settings_of};
 ghost use Rattle.gn_rules.specs.Sockets as named;
-ghost use Rattle.gn_check.specs.Nodes.{kind_in, settings_in, inputs_in};
+ghost use Rattle.gn_scopes.specs.Nodes.{kind_in, settings_in, inputs_in};
 
 use crate::groups::{GroupList, Lists};
 use crate::read::{Constant, Read, Site, passed, plain, zero};

@@ -1,7 +1,7 @@
 ghost use Rattle.std.specs.Prelude.{◌≡◌, ◌&&◌, ◌==◌, ℕ, [], Some, IfOk, map, length, option_map, option_and_then};
 ghost use Rattle.gn_tree.specs.Seen.{socket_of, tree_of};
 ghost use Rattle.gn_check.specs.Answers.{tree_in};
-ghost use Rattle.gn_check.specs.Nodes.{inputs_in};
+ghost use Rattle.gn_scopes.specs.Nodes.{inputs_in};
 ghost use Rattle.gn_meaning.specs.Sites as sites;
 ghost use Rattle.gn_meaning.specs.Reads.{kind_number, Run};
 ghost use Rattle.gn_meaning.specs.Demand.{output_read};

@@ -2,7 +2,7 @@ use Rattle.std.proofs.Common.{◌≡◌, drop, map}
 use Rattle.std.specs.List.{list_any}
 use Rattle.gn_tree.specs.Seen.{link_of}
 use Rattle.gn_rules.specs.Rules.{link_clashes}
-use Rattle.gn_check.specs.Seen.{scope_of}
+use Rattle.gn_scopes.specs.Seen.{scope_of}
 use Rattle.gn_check.proofs.broken.any_clashes.Given as goal
 
 abbrev pub invariant-loop-link : goal.invariant-loop-link

@@ -7,8 +7,8 @@ use Rattle.gn_tree.specs.Trees.{node_size, settings_size, nodes_size, no_setting
 use Rattle.gn_tree.specs.Seen.{socket_of, named_of, nodes_of, setting_then, settings_of}
 use Rattle.gn_rules.specs.Scopes.{zone_scope}
 use Rattle.gn_rules.specs.Walk.{breaks, in_node, in_settings, first_node, in_sockets, in_given_out}
-use Rattle.gn_check.specs.Nodes.{settings_in}
-use Rattle.gn_check.specs.Seen.{scope_of}
+use Rattle.gn_scopes.specs.Nodes.{settings_in}
+use Rattle.gn_scopes.specs.Seen.{scope_of}
 use Rattle.gn_check.specs.Zones.{in_inputs_of_node, in_zone}
 use Rattle.gn_measure.proofs.Within.{node_within, setting_within}
 use Rattle.gn_check.proofs.Walking.{is_same, in_first, in_rest, in_last, size_of_node, node_way, zone_next, zone_smaller, zone_way, nodes_way}

@@ -3,7 +3,7 @@ use Rattle.gn_tree.specs.Trees.{node_size, settings_size, nodes_size}
 use Rattle.gn_tree.specs.Seen.{nodes_of, settings_of}
 use Rattle.gn_rules.specs.Walk as walk
 use Rattle.gn_rules.specs.Walk.{breaks}
-use Rattle.gn_check.specs.Seen.{scope_of}
+use Rattle.gn_scopes.specs.Seen.{scope_of}
 use Rattle.gn_check.proofs.walk.+walk.Given as goal
 
 abbrev pub invariant-first_node-loop-node : goal.invariant-first_node-loop-node

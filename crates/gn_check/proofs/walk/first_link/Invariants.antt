@@ -2,7 +2,7 @@ use Rattle.std.proofs.Common.{◌≡◌, drop, map}
 use Rattle.gn_tree.specs.Seen.{link_of}
 use Rattle.gn_rules.specs.Walk as walk
 use Rattle.gn_rules.specs.Walk.{breaks}
-use Rattle.gn_check.specs.Seen.{scope_of}
+use Rattle.gn_scopes.specs.Seen.{scope_of}
 use Rattle.gn_check.proofs.walk.first_link.Given as goal
 
 abbrev pub invariant-loop-link : goal.invariant-loop-link

@@ -7,7 +7,7 @@ use Rattle.gn_tree.specs.Seen.{group_of, input_of, nodes_of, tree_of}
 use Rattle.gn_rules.specs.Sockets.{single}
 use Rattle.gn_rules.specs.Scopes.{tree_scope}
 use Rattle.gn_rules.specs.Walk.{breaks, first_node, in_input, in_output}
-use Rattle.gn_check.specs.Seen.{scope_of}
+use Rattle.gn_scopes.specs.Seen.{scope_of}
 use Rattle.gn_check.specs.Zones.{in_body}
 use Rattle.gn_check.proofs.Walking.{is_same, in_first, in_rest, in_last, rest_alone, nodes_way, output_way, tree_scope_way}
 use Rattle.gn_check.proofs.walk.in_body.Goals as goal

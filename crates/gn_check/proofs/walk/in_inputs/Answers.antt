@@ -1,8 +1,8 @@
 use Rattle.std.proofs.Common.{map}
 use Rattle.gn_tree.specs.Seen.{named_of}
 use Rattle.gn_rules.specs.Walk.{breaks, first_input}
-use Rattle.gn_check.specs.Scopes.{declared_by}
-use Rattle.gn_check.specs.Seen.{scope_of}
+use Rattle.gn_scopes.specs.Scopes.{declared_by}
+use Rattle.gn_scopes.specs.Seen.{scope_of}
 use Rattle.gn_check.specs.Zones.{in_inputs_of_node}
 use Rattle.gn_check.proofs.Walking.{is_same, inputs_way}
 use Rattle.gn_check.proofs.walk.in_inputs.Goals as goal

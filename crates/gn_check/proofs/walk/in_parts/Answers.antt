@@ -4,7 +4,7 @@ use Rattle.gn_pointers.specs.Seen.{pointer_of}
 use Rattle.gn_tree.specs.Seen.{socket_of, group_of, nodes_of}
 use Rattle.gn_rules.specs.Scopes.{group_scope}
 use Rattle.gn_rules.specs.Walk.{breaks, in_sockets, first_node}
-use Rattle.gn_check.specs.Seen.{scope_of}
+use Rattle.gn_scopes.specs.Seen.{scope_of}
 use Rattle.gn_check.specs.Zones.{in_results}
 use Rattle.gn_check.proofs.Walking.{is_same, in_first, in_rest, nodes_way, scope_way}
 use Rattle.gn_check.proofs.walk.in_parts.Goals as goal

@@ -3,7 +3,7 @@ use Rattle.gn_pointers.specs.Pointers.{key, joined}
 use Rattle.gn_pointers.specs.Seen.{pointer_of}
 use Rattle.gn_tree.specs.Seen.{socket_of, named_of}
 use Rattle.gn_rules.specs.Walk.{breaks, in_sockets, in_given_out}
-use Rattle.gn_check.specs.Seen.{scope_of}
+use Rattle.gn_scopes.specs.Seen.{scope_of}
 use Rattle.gn_check.proofs.Walking.{in_first, in_rest, in_last}
 use Rattle.gn_check.proofs.walk.in_results.Goals as goal
 

@@ -1,6 +1,6 @@
 use Rattle.std.proofs.Common.{codes, sym, ◌∙◌, ap, subst}
 use Rattle.std.specs.Prelude.{bytes_eq}
-use Rattle.gn_check.specs.Nodes.{kind_in, settings_in}
+use Rattle.gn_scopes.specs.Nodes.{kind_in, settings_in}
 use Rattle.gn_origin.specs.Nodes.{Holds}
 use Rattle.gn_origin.specs.Reading.{scope_of}
 use Rattle.gn_origin.specs.declared.list.Inside.TheVariants as inside

@@ -6,7 +6,7 @@ use Rattle.gn_kinds.specs.declared.row.SocketKind.TheVariants.{Geometry}
 use Rattle.gn_tree.specs.Seen.{socket_of}
 use Rattle.gn_names.specs.First.{first_of}
 use Rattle.gn_rules.specs.Things.{socket_names}
-use Rattle.gn_check.proofs.Finding.{found_in, found_by_number}
+use Rattle.gn_scopes.proofs.Finding.{found_in, found_by_number}
 use Rattle.gn_origin.proofs.sockets.Sockets.find.Goals as goal
 
 pub returns-in_err-socket : goal.returns-in_err-socket

@@ -1,7 +1,0 @@
-use Rattle.std.proofs.Common.{◌≡◌, ◌++◌, drop, map}
-use Rattle.gn_check.specs.Groups.{lists_in}
-use Rattle.gn_check.specs.Scopes.{items_of_node}
-use Rattle.gn_check.proofs.scope.all_items.Given as goal
-
-abbrev pub invariant-loop-node : goal.invariant-loop-node
-invariant-loop-node l = lists_in l.items.items ++ map items_of_node (drop l.node-index l.nodes) ≡ map items_of_node l.nodes

@@ -1,7 +1,0 @@
-use Rattle.std.proofs.Common.{◌≡◌, drop}
-use Rattle.gn_tree.specs.Seen.{settings_of}
-use Rattle.gn_rules.specs.Sockets as sockets
-use Rattle.gn_check.proofs.setting.items_in.Given as goal
-
-abbrev pub invariant-loop-setting : goal.invariant-loop-setting
-invariant-loop-setting l = sockets.items_in (settings_of (drop l.setting-index l.settings)) ≡ sockets.items_in (settings_of l.settings)

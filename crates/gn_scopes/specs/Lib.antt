@@ -1,0 +1,5 @@
+pub mod Settings
+pub mod Groups
+pub mod Nodes
+pub mod Scopes
+pub mod Seen
