@@ -4,7 +4,8 @@ use Rattle.gn_lines.specs.Lines.{Line}
 use Rattle.gn_elements.specs.Growing.{Growing, none_yet, with_lines}
 use Rattle.gn_elements.specs.Steps.{edges_in}
 use Rattle.gn_elements.specs.declared.parts.Parts.{Parts}
-use Rattle.gn_elements.specs.declared.fault.BadLine.{BadLine}
+use Rattle.gn_elements.specs.Faults.{IsFault}
+use Rattle.gn_elements.specs.declared.fault.ObjFault.{ObjFault}
 
 abbrev pub growing : Parts → Growing
 growing p = record {
@@ -15,7 +16,7 @@ growing p = record {
   faces = p.faces.items;
 }
 
--- what the lines of a text grow to, or the first bad line
-abbrev pub IsGrown : List Line → Result Parts BadLine → Type 0
+-- what the lines of a text grow to, or why nothing was read of them
+abbrev pub IsGrown : List Line → Result Parts ObjFault → Type 0
 IsGrown ls (Ok parts) = with_lines none_yet ls ≡ Ok (growing parts)
-IsGrown ls (Err bad) = with_lines none_yet ls ≡ Err (record { line = bad.line; rule = bad.rule })
+IsGrown ls (Err fault) = IsFault (with_lines none_yet ls) fault

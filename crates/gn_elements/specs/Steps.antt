@@ -9,6 +9,8 @@ use Rattle.gn_elements.specs.References.{is_reference, names_vertex, vertex_name
 use Rattle.gn_elements.specs.Read.{Element, vertex, vertex_of}
 use Rattle.gn_elements.specs.Growing.{Growing, grown, leading_number}
 use Rattle.gn_elements.specs.Rules.{rule_number}
+use Rattle.gn_elements.specs.Faults.{IsLineFault}
+use Rattle.gn_elements.specs.declared.fault.LineFault.{LineFault}
 use Rattle.gn_elements.specs.declared.rule.Rule.{Rule}
 use Rattle.gn_elements.specs.declared.reference.Reference.{Reference}
 use Rattle.gn_elements.specs.declared.reference.Reference.TheVariants.{Vertex, Missing, Malformed}
@@ -27,10 +29,10 @@ IsOutcome words least are_references are_there (Ok done) =
 IsOutcome words least are_references are_there (Err rule) =
     (if nat_lt words least then too_few_references else (if are_references then (if are_there then 0 else no_vertex) else no_reference)) ≡ rule_number rule
 
--- the vertices that words name, or the rule that they break
-abbrev pub IsRow : ℕ → ℕ → List Text → List ℕ → Result (Unit {0}) Rule → Type 0
+-- the vertices that words name, or why there are none
+abbrev pub IsRow : ℕ → ℕ → List Text → List ℕ → Result (Unit {0}) LineFault → Type 0
 IsRow least count words vertices (Ok done) = vertices_named least count words ≡ Ok vertices
-IsRow least count words vertices (Err rule) = vertices_named least count words ≡ Err (rule_number rule)
+IsRow least count words vertices (Err fault) = IsLineFault (vertices_named least count words) fault
 
 -- the number at the front of some words, which is taken
 abbrev pub IsNumber : List Text → List Text → Result Fx Rule → Type 0
@@ -46,7 +48,7 @@ IsPosition words (Err rule) = vertex_of words ≡ Err (rule_number rule)
 abbrev pub edges_in : List (ℕ × ℕ) → List Edge
 edges_in pairs = map edge_of pairs
 
--- the parts with those of an element, or the rule that is broken
-abbrev pub Grows : Growing → Result Element ℕ → Growing → Result (Unit {0}) Rule → Type 0
+-- the parts with those of an element, or why the line adds nothing
+abbrev pub Grows : Growing → Result Element ℕ → Growing → Result (Unit {0}) LineFault → Type 0
 Grows old element new (Ok done) = grown old element ≡ Ok new
-Grows old element new (Err rule) = grown old element ≡ Err (rule_number rule)
+Grows old element new (Err fault) = IsLineFault (grown old element) fault

@@ -16,7 +16,7 @@ mod reference;
 mod row;
 mod rule;
 
-pub use fault::BadLine;
+pub use fault::ObjFault;
 pub use parts::Parts;
 pub use read::read_parts;
 

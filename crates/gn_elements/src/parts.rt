@@ -7,6 +7,7 @@ ghost use Rattle.gn_elements.specs.Growing.{fits, numbers_among, none_yet};
 ghost use Rattle.gn_elements.specs.Steps.{Grows, edges_in};
 ghost use Rattle.gn_elements.specs.Seen.{growing};
 
+use crate::fault::LineFault;
 use crate::rule::Rule;
 use gn_edges::Edges;
 use gn_memory::Memory;
@@ -86,45 +87,45 @@ impl Parts {
 
     /// Adds a vertex.
     #[inline(always)]
-    pub(crate) fn add_vertex(&mut self, point: V3) -> Result<Result<(), Rule>, Memory>
+    pub(crate) fn add_vertex(&mut self, point: V3) -> Result<(), LineFault>
         requires { fits (growing self.old) ≡ true }
-        ensures { IfOk result (Grows (growing self.old) (Ok (vertex point)) (growing self.new)) }
+        ensures { Grows (growing self.old) (Ok (vertex point)) (growing self.new) result }
     {
         self.points.push(point)?;
         if self.points.len() > MOST {
-            return Ok(Err(Rule::TooManyElements));
+            return Err(LineFault::Broken(Rule::TooManyElements));
         }
-        Ok(Ok(()))
+        Ok(())
     }
 
     /// Adds the edges between neighbours that differ in a row of vertices.
-    pub(crate) fn add_row(&mut self, vertices: &[u32]) -> Result<Result<(), Rule>, Memory>
+    pub(crate) fn add_row(&mut self, vertices: &[u32]) -> Result<(), LineFault>
         requires { fits (growing self.old) ≡ true }
-        ensures { IfOk result (Grows (growing self.old) (Ok (row vertices.now)) (growing self.new)) }
+        ensures { Grows (growing self.old) (Ok (row vertices.now)) (growing self.new) result }
     {
         add_edges_along(&mut self.edges, vertices)?;
         if self.edges.len() > MOST {
-            return Ok(Err(Rule::TooManyElements));
+            return Err(LineFault::Broken(Rule::TooManyElements));
         }
-        Ok(Ok(()))
+        Ok(())
     }
 
     /// Adds a face with corners at these vertices.
     #[inline(always)]
-    pub(crate) fn add_face(&mut self, vertices: &[u32]) -> Result<Result<(), Rule>, Memory>
+    pub(crate) fn add_face(&mut self, vertices: &[u32]) -> Result<(), LineFault>
         requires { fits (growing self.old) ≡ true }
-        ensures { IfOk result (Grows (growing self.old) (Ok (face vertices.now)) (growing self.new)) }
+        ensures { Grows (growing self.old) (Ok (face vertices.now)) (growing self.new) result }
     {
         self.corner_points.extend_from_slice(vertices)?;
         let corners = self.corner_points.len();
         if corners > MOST {
-            return Ok(Err(Rule::TooManyElements));
+            return Err(LineFault::Broken(Rule::TooManyElements));
         }
         add_edges_around(&mut self.edges, &mut self.corner_edges, vertices)?;
         self.faces.push(corners as u32)?;
         if self.edges.len() > MOST || self.faces.len() - 1 > MOST {
-            return Ok(Err(Rule::TooManyElements));
+            return Err(LineFault::Broken(Rule::TooManyElements));
         }
-        Ok(Ok(()))
+        Ok(())
     }
 }
