@@ -1,10 +1,9 @@
-ghost use Rattle.std.specs.Prelude.{◌≡◌, ◌+◌, ◌<◌, ◌≤◌, ◌^◌, ◌++◌, true, length, filter, fold, IfOk, OnOk, Ok};
-ghost use Rattle.std.specs.List.{position_or_len};
-ghost use Rattle.gn_plain.specs.Edges.{is_edge, edge_between, edges_along, edges_around, with_edge};
-ghost use Rattle.gn_plain.specs.Topology.{edge_of};
+ghost use Rattle.std.specs.Prelude.{◌≡◌, ◌+◌, ◌<◌, ◌^◌, ◌++◌, true, length, filter, IfOk, OnOk, Ok};
+ghost use Rattle.gn_plain.specs.Edges.{edges_along, edges_around};
+ghost use Rattle.gn_edges.specs.Added.{edges_in, Adds};
 ghost use Rattle.gn_elements.specs.Read.{vertex, row, face, is_proper};
 ghost use Rattle.gn_elements.specs.Growing.{fits, numbers_among, none_yet};
-ghost use Rattle.gn_elements.specs.Steps.{Grows, edges_in};
+ghost use Rattle.gn_elements.specs.Steps.{Grows};
 ghost use Rattle.gn_elements.specs.Seen.{growing};
 
 use crate::fault::LineFault;
@@ -34,7 +33,7 @@ pub struct Parts {
 
 /// Puts the edges between neighbours that differ behind the others, each unless it is one of them.
 fn add_edges_along(edges: &mut Edges, row: &[u32]) -> Result<(), Memory>
-    ensures { OnOk result (edges_in edges.new ≡ fold with_edge (edges_in edges.old) (filter is_proper (edges_along row.now))) }
+    ensures { OnOk result (Adds (filter is_proper (edges_along row.now)) edges.old edges.new) }
 {
     let [first, others @ ..] = row else {
         return Ok(());
@@ -54,8 +53,9 @@ fn add_edges_along(edges: &mut Edges, row: &[u32]) -> Result<(), Memory>
 #[inline(always)]
 fn add_edges_around(edges: &mut Edges, numbers: &mut Vec<u32>, face: &[u32]) -> Result<(), Memory>
     requires { length (edges_in edges.old) + length face.now < 2 ^ 32 }
-    ensures edges { OnOk result (edges_in edges.new ≡ fold with_edge (edges_in edges.old) (edges_around face.now)) }
-    ensures numbers { OnOk result (numbers.new.items ≡ numbers.old.items ++ numbers_among (edges_in edges.old) (edges_around face.now)) }
+    ensures edges { OnOk result (Adds (edges_around face.now) edges.old edges.new) }
+    ensures numbers { OnOk result (numbers.new.items
+        ≡ numbers.old.items ++ numbers_among (edges_in edges.old) (edges_around face.now)) }
 {
     let [first, others @ ..] = face else {
         return Ok(());

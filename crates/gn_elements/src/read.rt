@@ -1,10 +1,10 @@
 ghost use Rattle.std.specs.Prelude.{◌≡◌, true, length};
 ghost use Rattle.gn_lines.specs.Lines.{first_words, other_lines, lines};
-ghost use Rattle.gn_elements.specs.Read.{vertex_of, with_vertices, face_of, row, nothing, element_of};
-ghost use Rattle.gn_elements.specs.References.{vertices_named};
+ghost use Rattle.gn_elements.specs.Read.{vertex_of, with_vertices, face_of, row, nothing};
+ghost use Rattle.gn_elements.specs.Read.{element_of};
 ghost use Rattle.gn_elements.specs.Growing.{fits};
 ghost use Rattle.gn_elements.specs.Steps.{Grows};
-ghost use Rattle.gn_elements.specs.Seen.{growing, IsGrown};
+ghost use Rattle.gn_elements.specs.Seen.{growing, named_in, IsGrown};
 
 use crate::different::are_different;
 use crate::fault::{LineFault, ObjFault};
@@ -35,7 +35,7 @@ fn read_face(
 ) -> Result<(), LineFault>
     requires { fits (growing parts.old) ≡ true }
     ensures grows { Grows (growing parts.old)
-        (with_vertices face_of (vertices_named 3 (length (growing parts.old).points) (first_words lines.old)))
+        (with_vertices face_of (named_in parts.old 3 (first_words lines.old)))
         (growing parts.new) result }
     ensures others { other_lines lines.new ≡ other_lines lines.old }
 {
@@ -55,7 +55,7 @@ fn read_edges(
 ) -> Result<(), LineFault>
     requires { fits (growing parts.old) ≡ true }
     ensures grows { Grows (growing parts.old)
-        (with_vertices row (vertices_named 2 (length (growing parts.old).points) (first_words lines.old)))
+        (with_vertices row (named_in parts.old 2 (first_words lines.old)))
         (growing parts.new) result }
     ensures others { other_lines lines.new ≡ other_lines lines.old }
 {
@@ -72,7 +72,7 @@ fn read_points(
 ) -> Result<(), LineFault>
     requires { fits (growing parts.old) ≡ true }
     ensures grows { Grows (growing parts.old)
-        (with_vertices (λ vs. nothing) (vertices_named 1 (length (growing parts.old).points) (first_words lines.old)))
+        (with_vertices (λ vs. nothing) (named_in parts.old 1 (first_words lines.old)))
         (growing parts.new) result }
     ensures others { other_lines lines.new ≡ other_lines lines.old }
 {
@@ -111,7 +111,7 @@ fn read_words(
 /// # Errors
 ///
 /// `Bad` where the text spells no mesh, with its first bad line and the least rule that the line
-/// breaks. `Memory` where there is none.
+/// breaks. `Memory` for want of memory.
 pub fn read_parts(alloc: Global, bytes: &[u8]) -> Result<Parts, ObjFault>
     ensures { IsGrown (lines bytes.now) result }
 {

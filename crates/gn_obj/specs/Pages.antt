@@ -50,7 +50,7 @@ abbrev pub Written : {K : Type 0} → List ℕ → (K → Option (List ℕ)) →
 Written text held faults out out' page page' result =
     Writes text (writer (held out) (faults out) page) (writer (held out') (faults out') page') result
 
--- the text went in whole, or a front part of it did, whose length is told up to 2^64 - 1
+-- the text went in whole, or a front part of it did, whose length is returned, up to 2^64 - 1
 abbrev pub TakesText : List ℕ → Put → Option (List ℕ) → Option (List ℕ) → Type 0
 TakesText text All before now = now ≡ with_bytes before text
 TakesText text (Failed taken) before now =

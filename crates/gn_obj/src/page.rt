@@ -20,7 +20,7 @@ pub(crate) const PIECE: usize = 128;
 pub(crate) struct Unwritten;
 
 /// Bytes that wait to be handed on in one piece, and how many were handed on before them. The page
-/// stands on the stack. Contracts see a `PageBytes`.
+/// is on the stack. Contracts see a `PageBytes`.
 #[derive(Drop)]
 pub(crate) struct Page {
     bytes: [u8; ROOM],
@@ -74,7 +74,7 @@ impl Page {
         &self.bytes[..self.len]
     }
 
-    /// Takes all bytes off the page, of which so many were handed on.
+    /// Takes all bytes off the page; `taken` of them were handed on.
     fn take_off(&mut self, taken: u64)
         ensures { self.new ≡ record { waiting = []; sent = stopped (self.old.sent + taken) } }
     {
