@@ -36,10 +36,23 @@ found few (At k) o = Some k
 found few Nowhere o = if few then None else o
 found few Beyond o = o
 
+-- where the search ends for a pair in the list of its first number
+abbrev pub place_of : List (ℕ × ℕ) → List ℕ → List ℕ → ℕ × ℕ → Place
+place_of pairs first next e = walk pairs next e 8 (first_link first e.0)
+
+-- a link to one more pair fits 32 bits
+abbrev pub are_few : List (ℕ × ℕ) → Bool
+are_few pairs = nat_lt (length pairs) (2 ^ 32 - 1)
+
+-- the search in a list doesn't find the pair, and leaves open whether the map has it
+abbrev pub IsUnlisted : List (ℕ × ℕ) → List ℕ → List ℕ → ℕ × ℕ → Type 0
+IsUnlisted pairs first next e =
+    (o : Option ℕ) → found (are_few pairs) (place_of pairs first next e) o ≡ o
+
 -- the number of a pair
 abbrev pub number_of : List (ℕ × ℕ) → List ℕ → List ℕ → BTreeMap (ℕ × ℕ) ℕ → ℕ × ℕ → Option ℕ
 number_of pairs first next crowd e =
-    found (nat_lt (length pairs) (2 ^ 32 - 1)) (walk pairs next e 8 (first_link first e.0)) (get pair_cmp crowd e)
+    found (are_few pairs) (place_of pairs first next e) (get pair_cmp crowd e)
 
 -- each pair is found by its number, and nothing else is
 pub record IsKept (pairs : List (ℕ × ℕ)) (first next : List ℕ) (crowd : BTreeMap (ℕ × ℕ) ℕ) : Type 0 where

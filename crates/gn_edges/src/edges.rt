@@ -1,8 +1,9 @@
-ghost use Rattle.std.specs.Prelude.{◌≡◌, ◌+◌, ◌-◌, ◌<◌, ◌≤◌, ◌^◌, ◌++◌, ℕ, List, [], ◌∷◌, length, map, not, nat_lt, Option, IfOk, OnOk, OnErr};
+ghost use Rattle.std.specs.Prelude.{◌≡◌, ◌+◌, ◌-◌, ◌<◌, ◌≤◌, ◌^◌, ◌++◌, ℕ, List, [], ◌∷◌};
+ghost use Rattle.std.specs.Prelude.{length, not, IfOk, OnOk, OnErr};
 ghost use Rattle.std.specs.List.{list_any, position_or_len};
-ghost use Rattle.gn_plain.specs.Edges.{is_edge, edge_between, with_edge};
-ghost use Rattle.gn_plain.specs.Topology.{edge_of};
-ghost use Rattle.gn_edges.specs.Kept.{IsKept, is_pair, with_pair, walk, first_link, found};
+ghost use Rattle.gn_plain.specs.Edges.{edge_between, with_edge};
+ghost use Rattle.gn_edges.specs.Kept.{IsKept, IsUnlisted, is_pair, with_pair, first_link, place_of};
+ghost use Rattle.gn_edges.specs.Added.{edges_in, number_among};
 ghost use Rattle.gn_edges.specs.declared.place.Place.TheVariants.{Nowhere};
 
 use crate::pair::edge_between;
@@ -96,7 +97,7 @@ fn add_listed(
     edge: (u32, u32),
 ) -> Result<usize, Memory>
     requires kept { IsKept pairs.old.items first.old.items next.old.items crowd.now }
-    requires ends { walk pairs.old.items next.old.items edge 8 (first_link first.old.items edge.0) ≡ Nowhere }
+    requires ends { place_of pairs.old.items first.old.items next.old.items edge ≡ Nowhere }
     requires few { length pairs.old.items < 2 ^ 32 - 1 }
     ensures kept { IsKept pairs.new.items first.new.items next.new.items crowd.now }
     ensures pairs { OnOk result (pairs.new.items ≡ with_pair pairs.old.items edge) }
@@ -122,7 +123,7 @@ fn add_crowded(
     edge: (u32, u32),
 ) -> Result<usize, Memory>
     requires kept { IsKept pairs.old.items first.now next.old.items crowd.old }
-    requires unlisted { (o : Option ℕ) → found (nat_lt (length pairs.old.items) (2 ^ 32 - 1)) (walk pairs.old.items next.old.items edge 8 (first_link first.now edge.0)) o ≡ o }
+    requires unlisted { IsUnlisted pairs.old.items first.now next.old.items edge }
     ensures kept { IsKept pairs.new.items first.now next.new.items crowd.new }
     ensures pairs { OnOk result (pairs.new.items ≡ with_pair pairs.old.items edge) }
     ensures number { IfOk result (λ n. n ≡ position_or_len (is_pair edge) pairs.old.items) }
@@ -188,8 +189,9 @@ impl Edges {
     /// number. Want of memory changes nothing.
     #[inline(always)]
     pub fn add(&mut self, a: u32, b: u32) -> Result<usize, Memory>
-        ensures edges { OnOk result (map edge_of self.new ≡ with_edge (map edge_of self.old) (edge_between a b)) }
-        ensures number { IfOk result (λ n. n ≡ position_or_len (is_edge (edge_between a b)) (map edge_of self.old)) }
+        ensures edges { OnOk result (edges_in self.new
+            ≡ with_edge (edges_in self.old) (edge_between a b)) }
+        ensures number { IfOk result (λ n. n ≡ number_among (edges_in self.old) (edge_between a b)) }
         ensures within { IfOk result (λ n. n ≤ length self.old) }
         ensures few { OnOk result (length self.new ≤ length self.old + 1) }
         ensures refused { OnErr result (self.new ≡ self.old) }

@@ -40,7 +40,7 @@ abbrev pub with_vertices : (List ℕ → Element) → Result (List ℕ) ℕ → 
 with_vertices f (Ok vs) = Ok (f vs)
 with_vertices f (Err rule) = Err rule
 
--- what a line's words add where so many vertices stand above it, or the least of the rules on words that they break
+-- what a line's words add, or the least of the rules on words that they break; `count` vertices were read so far
 abbrev pub element_of : ℕ → List Text → Result Element ℕ
 element_of count [] = Ok nothing
 element_of count (w ∷ ws) =

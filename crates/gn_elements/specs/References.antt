@@ -17,7 +17,7 @@ is_end_or_slash text = length text == 0 || slice_index text 0 == 47
 abbrev pub is_reference : Text → Bool
 is_reference word = nat_lt 0 (number_of word) && is_end_or_slash (after_digits (without_leading_sign word))
 
--- one of so many vertices
+-- one of `count` vertices
 abbrev pub names_vertex : ℕ → Text → Bool
 names_vertex count word = nat_le (number_of word) count
 

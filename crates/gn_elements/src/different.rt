@@ -5,7 +5,7 @@ use gn_memory::Memory;
 use std::alloc::Global;
 use std::collections::BTreeSet;
 
-/// Up to so many vertices are compared with each other.
+/// Up to this number of vertices are compared with each other.
 const FEW: usize = 16;
 
 #[inline(always)]
@@ -49,7 +49,7 @@ fn many_differ(alloc: Global, vertices: &[u32]) -> Result<bool, Memory>
     Ok(true)
 }
 
-/// Whether no vertex stands twice in a row.
+/// Whether no vertex is in a row twice.
 #[inline(always)]
 pub(crate) fn are_different(alloc: Global, vertices: &[u32]) -> Result<bool, Memory>
     ensures { IfOk result (λ differ. differ ≡ all_differ vertices.now) }

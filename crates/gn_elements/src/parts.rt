@@ -1,12 +1,12 @@
-ghost use Rattle.std.specs.Prelude.{◌≡◌, ◌+◌, ◌<◌, ◌≤◌, ◌^◌, ◌++◌, true, length, filter, fold, IfOk, OnOk, Ok};
-ghost use Rattle.std.specs.List.{position_or_len};
-ghost use Rattle.gn_plain.specs.Edges.{is_edge, edge_between, edges_along, edges_around, with_edge};
-ghost use Rattle.gn_plain.specs.Topology.{edge_of};
+ghost use Rattle.std.specs.Prelude.{◌≡◌, ◌+◌, ◌<◌, ◌^◌, ◌++◌, true, length, filter, IfOk, OnOk, Ok};
+ghost use Rattle.gn_plain.specs.Edges.{edges_along, edges_around};
+ghost use Rattle.gn_edges.specs.Added.{edges_in, Adds};
 ghost use Rattle.gn_elements.specs.Read.{vertex, row, face, is_proper};
 ghost use Rattle.gn_elements.specs.Growing.{fits, numbers_among, none_yet};
-ghost use Rattle.gn_elements.specs.Steps.{Grows, edges_in};
+ghost use Rattle.gn_elements.specs.Steps.{Grows};
 ghost use Rattle.gn_elements.specs.Seen.{growing};
 
+use crate::fault::LineFault;
 use crate::rule::Rule;
 use gn_edges::Edges;
 use gn_memory::Memory;
@@ -33,7 +33,7 @@ pub struct Parts {
 
 /// Puts the edges between neighbours that differ behind the others, each unless it is one of them.
 fn add_edges_along(edges: &mut Edges, row: &[u32]) -> Result<(), Memory>
-    ensures { OnOk result (edges_in edges.new ≡ fold with_edge (edges_in edges.old) (filter is_proper (edges_along row.now))) }
+    ensures { OnOk result (Adds (filter is_proper (edges_along row.now)) edges.old edges.new) }
 {
     let [first, others @ ..] = row else {
         return Ok(());
@@ -53,8 +53,9 @@ fn add_edges_along(edges: &mut Edges, row: &[u32]) -> Result<(), Memory>
 #[inline(always)]
 fn add_edges_around(edges: &mut Edges, numbers: &mut Vec<u32>, face: &[u32]) -> Result<(), Memory>
     requires { length (edges_in edges.old) + length face.now < 2 ^ 32 }
-    ensures edges { OnOk result (edges_in edges.new ≡ fold with_edge (edges_in edges.old) (edges_around face.now)) }
-    ensures numbers { OnOk result (numbers.new.items ≡ numbers.old.items ++ numbers_among (edges_in edges.old) (edges_around face.now)) }
+    ensures edges { OnOk result (Adds (edges_around face.now) edges.old edges.new) }
+    ensures numbers { OnOk result (numbers.new.items
+        ≡ numbers.old.items ++ numbers_among (edges_in edges.old) (edges_around face.now)) }
 {
     let [first, others @ ..] = face else {
         return Ok(());
@@ -86,45 +87,45 @@ impl Parts {
 
     /// Adds a vertex.
     #[inline(always)]
-    pub(crate) fn add_vertex(&mut self, point: V3) -> Result<Result<(), Rule>, Memory>
+    pub(crate) fn add_vertex(&mut self, point: V3) -> Result<(), LineFault>
         requires { fits (growing self.old) ≡ true }
-        ensures { IfOk result (Grows (growing self.old) (Ok (vertex point)) (growing self.new)) }
+        ensures { Grows (growing self.old) (Ok (vertex point)) (growing self.new) result }
     {
         self.points.push(point)?;
         if self.points.len() > MOST {
-            return Ok(Err(Rule::TooManyElements));
+            return Err(LineFault::Broken(Rule::TooManyElements));
         }
-        Ok(Ok(()))
+        Ok(())
     }
 
     /// Adds the edges between neighbours that differ in a row of vertices.
-    pub(crate) fn add_row(&mut self, vertices: &[u32]) -> Result<Result<(), Rule>, Memory>
+    pub(crate) fn add_row(&mut self, vertices: &[u32]) -> Result<(), LineFault>
         requires { fits (growing self.old) ≡ true }
-        ensures { IfOk result (Grows (growing self.old) (Ok (row vertices.now)) (growing self.new)) }
+        ensures { Grows (growing self.old) (Ok (row vertices.now)) (growing self.new) result }
     {
         add_edges_along(&mut self.edges, vertices)?;
         if self.edges.len() > MOST {
-            return Ok(Err(Rule::TooManyElements));
+            return Err(LineFault::Broken(Rule::TooManyElements));
         }
-        Ok(Ok(()))
+        Ok(())
     }
 
     /// Adds a face with corners at these vertices.
     #[inline(always)]
-    pub(crate) fn add_face(&mut self, vertices: &[u32]) -> Result<Result<(), Rule>, Memory>
+    pub(crate) fn add_face(&mut self, vertices: &[u32]) -> Result<(), LineFault>
         requires { fits (growing self.old) ≡ true }
-        ensures { IfOk result (Grows (growing self.old) (Ok (face vertices.now)) (growing self.new)) }
+        ensures { Grows (growing self.old) (Ok (face vertices.now)) (growing self.new) result }
     {
         self.corner_points.extend_from_slice(vertices)?;
         let corners = self.corner_points.len();
         if corners > MOST {
-            return Ok(Err(Rule::TooManyElements));
+            return Err(LineFault::Broken(Rule::TooManyElements));
         }
         add_edges_around(&mut self.edges, &mut self.corner_edges, vertices)?;
         self.faces.push(corners as u32)?;
         if self.edges.len() > MOST || self.faces.len() - 1 > MOST {
-            return Ok(Err(Rule::TooManyElements));
+            return Err(LineFault::Broken(Rule::TooManyElements));
         }
-        Ok(Ok(()))
+        Ok(())
     }
 }

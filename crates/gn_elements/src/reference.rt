@@ -15,7 +15,7 @@ pub(crate) enum Reference {
     Malformed,
 }
 
-/// Whether a minus stands first, and the text without its sign.
+/// Whether the text begins with a minus, and the text without its sign.
 #[inline(always)]
 fn split_sign(text: &[u8]) -> (bool, &[u8])
     ensures minus { result.0 ≡ starts_with_minus text.now }
@@ -67,7 +67,7 @@ fn is_end_or_slash(text: &[u8]) -> bool
     text.is_empty() || text.first() == Some(&b'/')
 }
 
-/// What a word names where so many vertices stand above it.
+/// Resolves an OBJ reference; `count` vertices were read so far.
 #[inline(always)]
 #[tactic(auto, using(crate::proofs::Digits::capped_value, crate::proofs::Digits::behind_value))]
 pub(crate) fn read_reference(word: &[u8], count: u32) -> Reference

@@ -1,11 +1,11 @@
-ghost use Rattle.std.specs.Prelude.{◌≡◌, ◌<◌, ◌-◌, ◌^◌, IfOk};
+ghost use Rattle.std.specs.Prelude.{◌≡◌, ◌<◌, ◌-◌, ◌^◌};
 ghost use Rattle.gn_lines.specs.Lines.{first_words, other_lines};
 ghost use Rattle.gn_elements.specs.Steps.{IsOutcome, IsRow, IsNumber, IsPosition};
 
+use crate::fault::LineFault;
 use crate::reference::{Reference, read_reference};
 use crate::rule::Rule;
 use gn_lines::Lines;
-use gn_memory::Memory;
 use gn_value::{Fx, V3};
 
 /// Which rule a row of references breaks, by how many there are.
@@ -24,15 +24,16 @@ fn rule_of(words: usize, least: usize, are_references: bool, are_there: bool) ->
     Ok(())
 }
 
-/// The vertices that the words left of a line name, where so many stand above it.
+/// Reads the vertices that the words left of a line name into `row`; `count` vertices were read so
+/// far. There are at least `least` references.
 pub(crate) fn read_row(
     lines: &mut Lines<'_>,
     least: usize,
     count: u32,
     row: &mut Vec<u32>,
-) -> Result<Result<(), Rule>, Memory>
+) -> Result<(), LineFault>
     requires { count < 2 ^ 32 - 1 }
-    ensures row { IfOk result (λ r. IsRow least count (first_words lines.old) row.new.items r) }
+    ensures row { IsRow least count (first_words lines.old) row.new.items result }
     ensures others { other_lines lines.new ≡ other_lines lines.old }
 {
     row.clear();
@@ -51,7 +52,7 @@ pub(crate) fn read_row(
             }
         }
     }
-    Ok(rule_of(row.len(), least, are_references, are_there))
+    Ok(rule_of(row.len(), least, are_references, are_there)?)
 }
 
 /// Takes a number from the words left of a line.

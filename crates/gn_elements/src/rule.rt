@@ -3,9 +3,9 @@ ghost use Rattle.std.specs.Prelude.{◌≡◌};
 /// A rule that a line can break.
 #[derive(Clone, Copy, Debug, PartialEq, Eq)]
 pub(crate) enum Rule {
-    /// Behind `v` stand three numbers.
+    /// `v` has three numbers behind it.
     NoPosition,
-    /// Behind `f` stand at least three references, behind `l` two, behind `p` one.
+    /// `f` has at least three references behind it, `l` two, and `p` one.
     TooFewReferences,
     /// A reference is a number other than 0, perhaps with a sign, and then nothing or a slash.
     NoReference,

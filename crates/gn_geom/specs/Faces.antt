@@ -3,9 +3,13 @@ use Rattle.std.specs.Prelude.{◌≡◌, ◌≢◌, ℕ, List, ◌∷◌, map, A
 use Rattle.gn_plain.specs.Edges.{edges_around}
 use Rattle.gn_plain.specs.Topology.{edge_at}
 
+-- the edges of corners are those around the vertices
+abbrev pub AreAround : List (ℕ × ℕ) → List ℕ → List ℕ → Type 0
+AreAround edges vertices corner_edges = map (edge_at edges) corner_edges ≡ edges_around vertices
+
 -- different vertices, and the edges around them
 abbrev pub IsFace : List (ℕ × ℕ) → List ℕ → List ℕ → Type 0
-IsFace edges vertices corner_edges = AllPairs (λ a b. a ≢ b) vertices × (map (edge_at edges) corner_edges ≡ edges_around vertices)
+IsFace edges vertices corner_edges = AllPairs (λ a b. a ≢ b) vertices × AreAround edges vertices corner_edges
 
 -- each of the faces that begin at the offsets but the last
 abbrev pub AreFaces : List (ℕ × ℕ) → List ℕ → List ℕ → List ℕ → Type 0

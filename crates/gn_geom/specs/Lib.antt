@@ -1,4 +1,4 @@
 pub mod Meshes
 pub mod Geometries
-pub mod Edges
+pub mod Faults
 pub mod Faces

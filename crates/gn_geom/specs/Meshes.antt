@@ -15,13 +15,22 @@ pub record MeshArrays : Type 0 where
   pub corner_edges : ArrayView ℕ
   pub loose : ArrayView Bool
 
+-- the topology of that number of vertices and of lists
+abbrev pub topology_with : ℕ → List (ℕ × ℕ) → List ℕ → List ℕ → List ℕ → Topology
+topology_with points edges faces corner_points corner_edges =
+    record { points = points; edges = edges; corner_points = corner_points; corner_edges = corner_edges; faces = faces }
+
 -- the topology of lists
 abbrev pub topology : List V3 → List (ℕ × ℕ) → List ℕ → List ℕ → List ℕ → Topology
 topology points edges faces corner_points corner_edges =
-    record { points = length points; edges = edges; corner_points = corner_points; corner_edges = corner_edges; faces = faces }
+    topology_with (length points) edges faces corner_points corner_edges
 
 abbrev pub topology_of : MeshArrays → Topology
 topology_of m = topology m.points.items m.edges.items m.faces.items m.corner_points.items m.corner_edges.items
+
+-- the mesh has that topology
+abbrev pub HasTopology : Topology → MeshArrays → Type 0
+HasTopology t m = topology_of m ≡ t
 
 -- the plain shape, without the handles
 abbrev pub plain_of : MeshArrays → geometry.Shape

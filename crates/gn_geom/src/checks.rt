@@ -1,8 +1,9 @@
 // Whether lists are the parts of a mesh. Each check looks at a list once.
-ghost use Rattle.std.specs.Prelude.{◌≡◌, ◌≢◌, ◌↔◌, ◌<◌, ◌≤◌, ◌^◌, ℕ, IsTrue, length, map, All, AllPairs, IfOk, slice_range};
-ghost use Rattle.gn_plain.specs.Edges.{edges_around};
-ghost use Rattle.gn_plain.specs.Topology.{AreOffsets, IsNumbered, IsValid, edge_at};
-ghost use Rattle.gn_geom.specs.Faces.{AreFaces, IsFace};
+ghost use Rattle.std.specs.Prelude.{◌≡◌, ◌≢◌, ◌↔◌, ◌<◌, ◌≤◌, ◌^◌, ℕ, length, slice_range};
+ghost use Rattle.std.specs.Prelude.{IsTrue, All, AllPairs, IfOk};
+ghost use Rattle.gn_plain.specs.Topology.{AreOffsets, IsNumbered, IsValid};
+ghost use Rattle.gn_geom.specs.Meshes.{topology_with};
+ghost use Rattle.gn_geom.specs.Faces.{AreAround, AreFaces, IsFace};
 
 use gn_edges::{Edges, edge_between};
 use gn_memory::Memory;
@@ -82,7 +83,7 @@ fn differ(vertices: &[u32], marks: &mut [u32], number: u32) -> bool
 fn are_joined(vertices: &[u32], corner_edges: &[u32], edges: &[(u32, u32)]) -> bool
     requires paired { length vertices.now ≡ length corner_edges.now }
     requires within { All (λ k. k < length edges.now) corner_edges.now }
-    ensures { IsTrue result ↔ (map (edge_at edges.now) corner_edges.now ≡ edges_around vertices.now) }
+    ensures { IsTrue result ↔ AreAround edges.now vertices.now corner_edges.now }
 {
     let [first, others @ ..] = vertices else {
         return true;
@@ -113,7 +114,8 @@ fn is_face(
     requires corner_points_within { All (λ v. v < length marks.old) corner_points.now }
     requires corner_edges_within { All (λ k. k < length edges.now) corner_edges.now }
     requires unmarked { All (λ m. m < number) marks.old }
-    ensures face { IsTrue result ↔ IsFace edges.now (slice_range corner_points.now begin end) (slice_range corner_edges.now begin end) }
+    ensures face { IsTrue result ↔ IsFace edges.now
+        (slice_range corner_points.now begin end) (slice_range corner_edges.now begin end) }
     ensures marked { All (λ m. m ≤ number) marks.new }
 {
     let vertices = &corner_points[begin..end];
@@ -170,8 +172,10 @@ pub(crate) fn are_parts(
     corner_points: &[u32],
     corner_edges: &[u32],
 ) -> Result<bool, Memory>
-    requires { IsNumbered (record { points = points; edges = edges.now; corner_points = corner_points.now; corner_edges = corner_edges.now; faces = faces.now }) }
-    ensures { IfOk result (λ b. IsTrue b ↔ IsValid (record { points = points; edges = edges.now; corner_points = corner_points.now; corner_edges = corner_edges.now; faces = faces.now })) }
+    requires { IsNumbered (topology_with
+        points edges.now faces.now corner_points.now corner_edges.now) }
+    ensures { IfOk result (λ b. IsTrue b ↔ IsValid (topology_with
+        points edges.now faces.now corner_points.now corner_edges.now)) }
 {
     if corner_points.len() != corner_edges.len() {
         return Ok(false);

@@ -1,7 +1,6 @@
-ghost use Rattle.std.specs.Prelude.{◌≡◌, ℕ, List, map, fold, flat_map, IfOk, OnOk};
-ghost use Rattle.gn_plain.specs.Edges.{Edge, edge_between, edges_around, first_seen, with_edge};
-ghost use Rattle.gn_plain.specs.Topology.{edge_of};
-ghost use Rattle.gn_geom.specs.Edges.{edges_in};
+ghost use Rattle.std.specs.Prelude.{◌≡◌, flat_map, IfOk, OnOk};
+ghost use Rattle.gn_plain.specs.Edges.{edges_around, first_seen};
+ghost use Rattle.gn_edges.specs.Added.{edges_in, Adds};
 
 use gn_edges::Edges;
 use gn_memory::Memory;
@@ -9,7 +8,7 @@ use std::alloc::Global;
 
 /// Puts the edges around a face behind the others, each unless it is one of them.
 fn add_edges_around(edges: &mut Edges, face: &[u32]) -> Result<(), Memory>
-    ensures { OnOk result (edges_in edges.new ≡ fold with_edge (edges_in edges.old) (edges_around face.now)) }
+    ensures { OnOk result (Adds (edges_around face.now) edges.old edges.new) }
 {
     let [first, others @ ..] = face else {
         return Ok(());
@@ -28,7 +27,8 @@ fn add_edges_around(edges: &mut Edges, face: &[u32]) -> Result<(), Memory>
 ///
 /// Each list has the vertices of a face in order. The last one is a neighbour of the first.
 pub fn edges_of(alloc: Global, face_points: &[Vec<u32>]) -> Result<Vec<(u32, u32)>, Memory>
-    ensures { IfOk result (λ edges. map edge_of edges.items ≡ first_seen (flat_map (λ face. edges_around face.items) face_points.now)) }
+    ensures { IfOk result (λ edges. edges_in edges.items
+        ≡ first_seen (flat_map (λ face. edges_around face.items) face_points.now)) }
 {
     let mut edges = Edges::new(alloc);
     for face in face_points {

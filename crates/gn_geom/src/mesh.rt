@@ -1,7 +1,9 @@
 ghost use Rattle.std.specs.Prelude.{◌≡◌, ◌<◌, length, All, IfOk, IfErr, OnOk, OnErr};
 ghost use Rattle.gn_plain.specs.Geometry.{is_loose};
 ghost use Rattle.gn_plain.specs.Topology.{IsValid, IsNumbered};
-ghost use Rattle.gn_geom.specs.Meshes.{topology, topology_of, plain_of, AreLoose, IsSole, Moves};
+ghost use Rattle.gn_geom.specs.Meshes.{topology, topology_of, plain_of, HasTopology};
+ghost use Rattle.gn_geom.specs.Meshes.{AreLoose, IsSole, Moves};
+ghost use Rattle.gn_geom.specs.Faults.{IsPartsFault};
 
 use crate::checks::are_parts;
 use gn_memory::Memory;
@@ -58,6 +60,17 @@ pub enum PartsFault {
     Memory,
 }
 
+impl From<Memory> for PartsFault {
+    ghost use Rattle.std.specs.Prelude.{◌≡◌};
+    ghost use Rattle.gn_geom.specs.declared.mesh.PartsFault.TheVariants.{Memory};
+
+    ghost from_gives = { λ _ fault. fault ≡ Memory };
+
+    fn from(_: Memory) -> Self {
+        PartsFault::Memory
+    }
+}
+
 /// An array with one handle.
 fn array<T: Drop>(items: Vec<T>) -> Result<SharedArray<T, USERS>, Memory>
     ensures { IfOk result (λ a. (a.items ≡ items.items) × (a.parts ≡ USERS)) }
@@ -99,29 +112,37 @@ impl Mesh {
         corner_points: Vec<u32>,
         corner_edges: Vec<u32>,
     ) -> Result<Mesh, PartsFault>
-        requires numbered { IsNumbered (topology points.items edges.items faces.items corner_points.items corner_edges.items) }
-        ensures valid { OnOk result (IsValid (topology points.items edges.items faces.items corner_points.items corner_edges.items)) }
-        ensures invalid { IfErr result (λ e. e ≡ PartsFault.Invalid → ¬ IsValid (topology points.items edges.items faces.items corner_points.items corner_edges.items)) }
+        requires numbered { IsNumbered (topology points.items edges.items faces.items
+            corner_points.items corner_edges.items) }
+        ensures valid { OnOk result (IsValid (topology points.items edges.items faces.items
+            corner_points.items corner_edges.items)) }
+        ensures invalid { IfErr result (IsPartsFault (topology points.items edges.items faces.items
+            corner_points.items corner_edges.items)) }
         ensures points { IfOk result (λ m. m.points.items ≡ points.items) }
-        ensures topology { IfOk result (λ m. topology_of m ≡ topology points.items edges.items faces.items corner_points.items corner_edges.items) }
+        ensures topology { IfOk result (HasTopology (topology points.items edges.items faces.items
+            corner_points.items corner_edges.items)) }
         ensures sole { IfOk result IsSole }
     {
-        match are_parts(
+        let is_mesh = are_parts(
             alloc,
             points.len(),
             &edges,
             &faces,
             &corner_points,
             &corner_edges,
-        ) {
-            Ok(true) => {}
-            Ok(false) => return Err(PartsFault::Invalid),
-            Err(Memory) => return Err(PartsFault::Memory),
+        )?;
+        if !is_mesh {
+            return Err(PartsFault::Invalid);
         }
-        match Mesh::from_valid_parts(alloc, points, edges, faces, corner_points, corner_edges) {
-            Ok(mesh) => Ok(mesh),
-            Err(Memory) => Err(PartsFault::Memory),
-        }
+        let mesh = Mesh::from_valid_parts(
+            alloc,
+            points,
+            edges,
+            faces,
+            corner_points,
+            corner_edges,
+        )?;
+        Ok(mesh)
     }
 
     /// The mesh of lists as `from_parts` takes them, which are known to be those of a mesh: they
@@ -134,10 +155,13 @@ impl Mesh {
         corner_points: Vec<u32>,
         corner_edges: Vec<u32>,
     ) -> Result<Mesh, Memory>
-        requires valid { IsValid (topology points.items edges.items faces.items corner_points.items corner_edges.items) }
-        requires numbered { IsNumbered (topology points.items edges.items faces.items corner_points.items corner_edges.items) }
+        requires valid { IsValid (topology points.items edges.items faces.items
+            corner_points.items corner_edges.items) }
+        requires numbered { IsNumbered (topology points.items edges.items faces.items
+            corner_points.items corner_edges.items) }
         ensures points { IfOk result (λ m. m.points.items ≡ points.items) }
-        ensures topology { IfOk result (λ m. topology_of m ≡ topology points.items edges.items faces.items corner_points.items corner_edges.items) }
+        ensures topology { IfOk result (HasTopology (topology points.items edges.items faces.items
+            corner_points.items corner_edges.items)) }
         ensures sole { IfOk result IsSole }
     {
         let loose = loose_edges(alloc, edges.len(), &corner_edges)?;

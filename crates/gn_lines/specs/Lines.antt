@@ -17,7 +17,7 @@ is_blank b = b == 32 || (b == 9 || b == 13)
 abbrev pub is_word : Text → Bool
 is_word text = nat_lt 0 (length text)
 
--- what stands between blanks
+-- what is between blanks
 abbrev pub words : Text → List Text
 words line = filter is_word (slice_split is_blank line)
 
@@ -55,7 +55,7 @@ pub record Line : Type 0 where
   pub number : ℕ
   pub words : List Text
 
--- words that stand on a physical line of that number, with the line that it goes on in
+-- the words of a physical line of that number, with the line that it goes on in
 abbrev pub joined : ℕ → List Text → List Line → List Line
 joined n ws [] = record { number = n; words = ws } ∷ []
 joined n ws (l ∷ ls) = record { number = n; words = ws ++ l.words } ∷ ls
@@ -75,7 +75,7 @@ abbrev pub without_mark : Text → Text
 without_mark (a ∷ b ∷ c ∷ text) = if a == 239 && (b == 187 && c == 191) then text else a ∷ b ∷ c ∷ text
 without_mark text = text
 
--- what stands between line feeds
+-- what is between line feeds
 abbrev pub physical_lines : Text → List Text
 physical_lines text = slice_split is_line_feed text
 

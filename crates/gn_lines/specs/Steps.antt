@@ -18,6 +18,10 @@ abbrev pub lines_past : ℕ → Text → List Line
 lines_past n [] = lines_at n []
 lines_past n (b ∷ text) = lines_at (n + 1) text
 
+-- how many lines are behind the first
+abbrev pub count_of_others : List Line → ℕ
+count_of_others ls = length (other_lines ls)
+
 -- the line that is read has no more words
 abbrev pub IsAtEnd : List Line → List Line → Type 0
 IsAtEnd old new = (first_words old ≡ []) × (first_words new ≡ [])

@@ -1,7 +1,7 @@
 ghost use Rattle.std.specs.Prelude.{◌≡◌, ◌≢◌, ◌<◌, ◌≤◌, ℕ, ◌+◌, ◌^◌, List, [], ◌∷◌, length, IsTrue, option_map, MatchOption};
 ghost use Rattle.gn_lines.specs.Lines as spec;
 ghost use Rattle.gn_lines.specs.Parts.{after_blanks, from_line_feed, from_end, line_end, is_separator, word_at, after_word};
-ghost use Rattle.gn_lines.specs.Steps.{IsStep, lines_past, IsAtEnd, IsNextLine};
+ghost use Rattle.gn_lines.specs.Steps.{IsStep, lines_at, lines_past, count_of_others, IsAtEnd, IsNextLine};
 
 use std::marker::Model;
 
@@ -105,7 +105,7 @@ enum Step<'a> {
     Word { word: &'a [u8], behind: &'a [u8] },
     /// The line ends, and the text goes on from there.
     End(&'a [u8]),
-    /// What stands before a backslash, and the text from the end of the physical line on.
+    /// The word before a backslash, and the text from the end of the physical line on.
     Continued { word: &'a [u8], end: &'a [u8] },
 }
 
@@ -136,7 +136,7 @@ fn next_step(text: &[u8]) -> Step<'_>
 #[inline(always)]
 fn past_line_feed(passed: u64, end: &[u8]) -> (u64, &[u8])
     requires { passed + length end.now < 2 ^ 64 }
-    ensures lines { spec.lines_from (result.0 + 1) (spec.physical_lines result.1.now) ≡ lines_past (passed + 1) end.now }
+    ensures lines { lines_at (result.0 + 1) result.1.now ≡ lines_past (passed + 1) end.now }
     ensures bound { result.0 + length result.1.now ≤ passed + length end.now }
     ensures shorter { length result.1.now ≤ length end.now }
 {
@@ -220,7 +220,7 @@ impl<'a> Lines<'a> {
     #[inline(always)]
     pub fn next_line(&mut self) -> bool
         ensures line { IsNextLine result self.old self.new }
-        ensures fewer { IsTrue result → length (spec.other_lines self.new) < length (spec.other_lines self.old) }
+        ensures fewer { IsTrue result → count_of_others self.new < count_of_others self.old }
     {
         loop {
             match next_step(self.rest) {

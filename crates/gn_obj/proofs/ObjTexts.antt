@@ -9,7 +9,7 @@ use Rattle.gn_plain.specs.Topology.{corner_of, edge_of, parts_between, vertices_
 use Rattle.gn_geom.specs.Meshes.{MeshArrays, plain_of}
 use Rattle.gn_geom.proofs.FaceLemmas.{face_vertices}
 use Rattle.gn_obj.specs.Written.{vertex_word, vertex_line, loose_edge_line, face_line, line_feed, obj_text}
-use Rattle.gn_obj.specs.FaceTexts.{face_text}
+use Rattle.gn_obj.specs.Texts.{face_text}
 
 -- a list with a first member
 pub first_and_rest : (xs : List ℕ) → 1 ≤ length xs → xs ≡ get_or xs 0 0 ∷ take (length xs - 1) (drop 1 xs)

@@ -2,6 +2,7 @@
 use Rattle.std.proofs.Common.{◌≡◌, ℕ, ◌<◌, get_or, ◌+◌, ◌^◌, ◌≤◌, List, [], ◌∷◌, ◌++◌, length, take, drop, Option, Some, None, Result, Ok, Err, refl, sym, ap, ◌∙◌, subst, arith, append_assoc, append-nil}
 use Rattle.std.proofs.Math.Seq.{take-append-add}
 use Rattle.std.proofs.lemmas.List.{take-append-le, length-append, at_drop_more}
+use Rattle.std.specs.Result.{IsErr}
 use Rattle.gn_io.specs.Outside.{stopped, with_bytes}
 use Rattle.gn_obj.specs.declared.page.Unwritten.{Unwritten}
 use Rattle.gn_obj.specs.Pages.{Writer, Grown, Cut, Writes}
@@ -65,6 +66,11 @@ cut_before a b w w' k =
 pub grown_writes : (r : Result (Unit {0}) Unwritten) (a b : List ℕ) (w w' w'' : Writer) → Grown a w w' → Writes b w' w'' r → Writes (a ++ b) w w'' r
 grown_writes (Ok u) a b w w' w'' g k = grown_both a b w w' w'' g k
 grown_writes (Err e) a b w w' w'' g k = grown_cut a b w w' w'' g k
+
+-- the output failed, and so does the call
+pub cut_fails : (r : Result (Unit {0}) Unwritten) (text : List ℕ) (w w' : Writer) → IsErr r → Cut text w w' → Writes text w w' r
+cut_fails (Ok u) text w w' failed k = cc
+cut_fails (Err e) text w w' failed k = k
 
 -- a front part of the whole text was written, and the rest is left
 abbrev pub IsLeft : List ℕ → List ℕ → Writer → Writer → Type 0

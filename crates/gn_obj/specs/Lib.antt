@@ -1,4 +1,4 @@
-pub mod Faults
+pub mod Parts
 pub mod Written
-pub mod FaceTexts
+pub mod Texts
 pub mod Pages

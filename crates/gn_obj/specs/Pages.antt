@@ -10,6 +10,10 @@ pub record PageBytes : Type 0 where
   pub waiting : List ℕ
   pub sent : ℕ
 
+-- a text behind what is on the page
+abbrev pub with_text : PageBytes → List ℕ → PageBytes
+with_text page text = record { waiting = page.waiting ++ text; sent = page.sent }
+
 -- what the output holds and how many of its calls failed, with the page before it
 pub record Writer : Type 0 where
   pub held : Option (List ℕ)
@@ -41,7 +45,12 @@ abbrev pub Writes : List ℕ → Writer → Writer → Result (Unit {0}) Unwritt
 Writes text before now (Ok _) = Grown text before now
 Writes text before now (Err _) = Cut text before now
 
--- the text went in whole, or a front part of it did, whose length is told up to 2^64 - 1
+-- a text was written through the page to an output, or the output failed
+abbrev pub Written : {K : Type 0} → List ℕ → (K → Option (List ℕ)) → (K → ℕ) → K → K → PageBytes → PageBytes → Result (Unit {0}) Unwritten → Type 0
+Written text held faults out out' page page' result =
+    Writes text (writer (held out) (faults out) page) (writer (held out') (faults out') page') result
+
+-- the text went in whole, or a front part of it did, whose length is returned, up to 2^64 - 1
 abbrev pub TakesText : List ℕ → Put → Option (List ℕ) → Option (List ℕ) → Type 0
 TakesText text All before now = now ≡ with_bytes before text
 TakesText text (Failed taken) before now =

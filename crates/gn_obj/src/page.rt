@@ -2,7 +2,7 @@ ghost use Rattle.std.specs.Prelude.{◌≡◌, ◌<◌, ◌≤◌, ◌+◌, ◌^
 ghost use Rattle.std.specs.Fmt.{decimal};
 ghost use Rattle.gn_decimal.specs.Decimal.{dec};
 ghost use Rattle.gn_io.specs.Outside.{stopped};
-ghost use Rattle.gn_obj.specs.Pages.{PageBytes, Writes, writer};
+ghost use Rattle.gn_obj.specs.Pages.{PageBytes, Written, with_text};
 
 use gn_decimal::{write_number, write_whole};
 use gn_io::{Put, Sink};
@@ -20,7 +20,7 @@ pub(crate) const PIECE: usize = 128;
 pub(crate) struct Unwritten;
 
 /// Bytes that wait to be handed on in one piece, and how many were handed on before them. The page
-/// stands on the stack. Contracts see a `PageBytes`.
+/// is on the stack. Contracts see a `PageBytes`.
 #[derive(Drop)]
 pub(crate) struct Page {
     bytes: [u8; ROOM],
@@ -74,7 +74,7 @@ impl Page {
         &self.bytes[..self.len]
     }
 
-    /// Takes all bytes off the page, of which so many were handed on.
+    /// Takes all bytes off the page; `taken` of them were handed on.
     fn take_off(&mut self, taken: u64)
         ensures { self.new ≡ record { waiting = []; sent = stopped (self.old.sent + taken) } }
     {
@@ -86,7 +86,7 @@ impl Page {
     #[inline(always)]
     pub(crate) fn append(&mut self, text: &[u8])
         requires { length self.old.waiting + length text.now ≤ 16384 }
-        ensures { self.new ≡ record { waiting = self.old.waiting ++ text.now; sent = self.old.sent } }
+        ensures { self.new ≡ with_text self.old text.now }
     {
         let end = self.len + text.len();
         self.bytes[self.len..end].copy_from_slice(text);
@@ -97,7 +97,7 @@ impl Page {
     #[inline(always)]
     pub(crate) fn append_number(&mut self, value: Fx)
         requires { length self.old.waiting + 24 ≤ 16384 }
-        ensures text { self.new ≡ record { waiting = self.old.waiting ++ dec value.0; sent = self.old.sent } }
+        ensures text { self.new ≡ with_text self.old (dec value.0) }
         ensures room { length self.new.waiting ≤ length self.old.waiting + 22 }
     {
         self.len = write_number(value, &mut self.bytes, self.len);
@@ -108,7 +108,7 @@ impl Page {
     pub(crate) fn append_whole(&mut self, number: u64)
         requires small { number < 10 ^ 10 }
         requires room { length self.old.waiting + 10 ≤ 16384 }
-        ensures text { self.new ≡ record { waiting = self.old.waiting ++ decimal number; sent = self.old.sent } }
+        ensures text { self.new ≡ with_text self.old (decimal number) }
         ensures room { length self.new.waiting ≤ length self.old.waiting + 10 }
     {
         self.len = write_whole(number, &mut self.bytes, self.len);
@@ -119,7 +119,7 @@ impl Page {
 #[cold]
 #[inline(never)]
 pub(crate) fn flush<K: Sink>(out: &mut K, page: &mut Page) -> Result<(), Unwritten>
-    ensures writes { Writes [] (writer (K.held out.old) (K.faults out.old) page.old) (writer (K.held out.new) (K.faults out.new) page.new) result }
+    ensures writes { Written [] K.held K.faults out.old out.new page.old page.new result }
     ensures empty { page.new.waiting ≡ [] }
 {
     match out.put(page.as_slice()) {
@@ -138,7 +138,7 @@ pub(crate) fn flush<K: Sink>(out: &mut K, page: &mut Page) -> Result<(), Unwritt
 /// Makes room for a piece of a line on the page.
 #[inline(always)]
 pub(crate) fn make_room<K: Sink>(out: &mut K, page: &mut Page) -> Result<(), Unwritten>
-    ensures writes { Writes [] (writer (K.held out.old) (K.faults out.old) page.old) (writer (K.held out.new) (K.faults out.new) page.new) result }
+    ensures writes { Written [] K.held K.faults out.old out.new page.old page.new result }
     ensures room { length page.new.waiting + 128 ≤ 16384 }
 {
     if page.len() + PIECE <= ROOM {

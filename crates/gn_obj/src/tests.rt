@@ -62,8 +62,8 @@ fn flag(rt: &impl Abort, alloc: Global) -> Result<Geometry, Fail> {
 
 const FLAG: &str = "v 0 0 0\nv 1 0 0\nv 0 1 0\nv 0 7 0\nl 3 4\nf 1 2 3\n";
 
-/// Writes into a sink with room, of which one call takes no more than so many bytes. Compares the
-/// answer with what is held.
+/// Writes into a sink with that room and those failing calls, and compares the answer with what is
+/// held.
 fn write(
     rt: &impl Abort,
     alloc: Global,
@@ -94,7 +94,7 @@ fn only_an_edge_of_no_face_has_a_line(rt: HostRuntime) -> Result<(), Fail> {
 }
 
 #[test]
-fn what_went_in_is_told_where_a_put_fails(rt: HostRuntime) -> Result<(), Fail> {
+fn the_bytes_that_went_in_are_counted_where_a_put_fails(rt: HostRuntime) -> Result<(), Fail> {
     let alloc = rt.alloc();
     let flag = flag(&rt, alloc)?;
     for taken in [0, 1, 9, 45] {
@@ -240,7 +240,7 @@ static BAD: [(&str, u64, u8); 5] = [
 ];
 
 #[test]
-fn tells_the_first_bad_line(rt: HostRuntime) {
+fn reports_the_first_bad_line(rt: HostRuntime) {
     for (text, line, rule) in BAD {
         match read_obj(rt.alloc(), text.as_bytes()) {
             Err(fault) => assert_eq!(rt; fault, ObjFault::Bad { line, rule }, "{text}"),

@@ -1,16 +1,14 @@
-ghost use Rattle.std.specs.Prelude.{◌≡◌, ◌≤◌, ◌<◌, ◌+◌, ◌++◌, [], length, flat_map, slice_range};
-ghost use Rattle.std.specs.Fmt.{decimal};
-ghost use Rattle.std.specs.List.{enumerate_from};
+ghost use Rattle.std.specs.Prelude.{◌≡◌, ◌≤◌, ◌<◌, ◌+◌, length, flat_map, slice_range};
 ghost use Rattle.gn_decimal.specs.Decimal.{dec};
-ghost use Rattle.gn_plain.specs.Topology.{AreOffsets, edge_of, parts_between};
-ghost use Rattle.gn_plain.specs.Geometry.{of_shape};
+ghost use Rattle.gn_plain.specs.Topology.{AreOffsets, edge_of};
 ghost use Rattle.gn_geom.specs.Meshes.{plain_of};
 ghost use Rattle.gn_geom.specs.Geometries.{plain_geometry};
 ghost use Rattle.gn_io.specs.Outside.{Rose};
 ghost use Rattle.gn_io.specs.Sink.{OnFailedPut};
-ghost use Rattle.gn_obj.specs.Written.{spaced, vertex_word, vertex_line, edge_line, loose_edge_line, obj_text};
-ghost use Rattle.gn_obj.specs.Pages.{TakesText, Writes, writer};
-ghost use Rattle.gn_obj.specs.FaceTexts.{face_text};
+ghost use Rattle.gn_obj.specs.Written.{spaced, vertex_word, vertex_line, edge_line};
+ghost use Rattle.gn_obj.specs.Written.{loose_edge_line, obj_text};
+ghost use Rattle.gn_obj.specs.Pages.{TakesText, Written, with_text};
+ghost use Rattle.gn_obj.specs.Texts.{face_text, faces_text, loose_edges_text, mesh_text};
 
 use crate::page::{Page, Unwritten, flush, make_room};
 use gn_geom::{Geometry, Mesh};
@@ -21,7 +19,7 @@ use gn_value::{Fx, V3};
 #[inline(always)]
 fn append_number(page: &mut Page, value: Fx)
     requires { length page.old.waiting + 25 ≤ 16384 }
-    ensures text { page.new ≡ record { waiting = page.old.waiting ++ spaced (dec value.0); sent = page.old.sent } }
+    ensures text { page.new ≡ with_text page.old (spaced (dec value.0)) }
     ensures room { length page.new.waiting ≤ length page.old.waiting + 25 }
 {
     page.append(b" ");
@@ -32,7 +30,7 @@ fn append_number(page: &mut Page, value: Fx)
 #[inline(always)]
 fn append_vertex(page: &mut Page, vertex: u32)
     requires { length page.old.waiting + 11 ≤ 16384 }
-    ensures text { page.new ≡ record { waiting = page.old.waiting ++ vertex_word vertex; sent = page.old.sent } }
+    ensures text { page.new ≡ with_text page.old (vertex_word vertex) }
     ensures room { length page.new.waiting ≤ length page.old.waiting + 11 }
 {
     page.append(b" ");
@@ -43,7 +41,7 @@ fn append_vertex(page: &mut Page, vertex: u32)
 #[inline(always)]
 fn append_vertex_line(page: &mut Page, point: V3)
     requires { length page.old.waiting + 128 ≤ 16384 }
-    ensures { page.new ≡ record { waiting = page.old.waiting ++ vertex_line point; sent = page.old.sent } }
+    ensures { page.new ≡ with_text page.old (vertex_line point) }
 {
     page.append(b"v");
     append_number(page, point.x);
@@ -56,7 +54,7 @@ fn append_vertex_line(page: &mut Page, point: V3)
 #[inline(always)]
 fn append_edge_line(page: &mut Page, edge: (u32, u32))
     requires { length page.old.waiting + 128 ≤ 16384 }
-    ensures { page.new ≡ record { waiting = page.old.waiting ++ edge_line (edge_of edge); sent = page.old.sent } }
+    ensures { page.new ≡ with_text page.old (edge_line (edge_of edge)) }
 {
     page.append(b"l");
     append_vertex(page, edge.0);
@@ -68,12 +66,9 @@ fn append_edge_line(page: &mut Page, edge: (u32, u32))
 #[inline(always)]
 fn write_text<K: Sink>(out: &mut K, page: &mut Page, text: &[u8]) -> Result<(), Unwritten>
     requires { length text.now ≤ 128 }
-    ensures { Writes text.now (writer (K.held out.old) (K.faults out.old) page.old) (writer (K.held out.new) (K.faults out.new) page.new) result }
+    ensures { Written text.now K.held K.faults out.old out.new page.old page.new result }
 {
-    match make_room(out, page) {
-        Ok(()) => {}
-        Err(error) => return Err(error),
-    }
+    make_room(out, page)?;
     page.append(text);
     Ok(())
 }
@@ -81,12 +76,10 @@ fn write_text<K: Sink>(out: &mut K, page: &mut Page, text: &[u8]) -> Result<(), 
 /// Writes a space and the number of a vertex.
 #[inline(always)]
 fn write_vertex<K: Sink>(out: &mut K, page: &mut Page, vertex: u32) -> Result<(), Unwritten>
-    ensures { Writes (vertex_word vertex) (writer (K.held out.old) (K.faults out.old) page.old) (writer (K.held out.new) (K.faults out.new) page.new) result }
+    ensures { Written (vertex_word vertex)
+        K.held K.faults out.old out.new page.old page.new result }
 {
-    match make_room(out, page) {
-        Ok(()) => {}
-        Err(error) => return Err(error),
-    }
+    make_room(out, page)?;
     append_vertex(page, vertex);
     Ok(())
 }
@@ -94,12 +87,9 @@ fn write_vertex<K: Sink>(out: &mut K, page: &mut Page, vertex: u32) -> Result<()
 /// Writes the line of a vertex.
 #[inline(always)]
 fn write_vertex_line<K: Sink>(out: &mut K, page: &mut Page, point: V3) -> Result<(), Unwritten>
-    ensures { Writes (vertex_line point) (writer (K.held out.old) (K.faults out.old) page.old) (writer (K.held out.new) (K.faults out.new) page.new) result }
+    ensures { Written (vertex_line point) K.held K.faults out.old out.new page.old page.new result }
 {
-    match make_room(out, page) {
-        Ok(()) => {}
-        Err(error) => return Err(error),
-    }
+    make_room(out, page)?;
     append_vertex_line(page, point);
     Ok(())
 }
@@ -107,25 +97,21 @@ fn write_vertex_line<K: Sink>(out: &mut K, page: &mut Page, point: V3) -> Result
 /// Writes the line of an edge.
 #[inline(always)]
 fn write_edge_line<K: Sink>(out: &mut K, page: &mut Page, edge: (u32, u32)) -> Result<(), Unwritten>
-    ensures { Writes (edge_line (edge_of edge)) (writer (K.held out.old) (K.faults out.old) page.old) (writer (K.held out.new) (K.faults out.new) page.new) result }
+    ensures { Written (edge_line (edge_of edge))
+        K.held K.faults out.old out.new page.old page.new result }
 {
-    match make_room(out, page) {
-        Ok(()) => {}
-        Err(error) => return Err(error),
-    }
+    make_room(out, page)?;
     append_edge_line(page, edge);
     Ok(())
 }
 
 /// Writes the lines of all vertices.
 fn write_points<K: Sink>(out: &mut K, page: &mut Page, points: &[V3]) -> Result<(), Unwritten>
-    ensures { Writes (flat_map vertex_line points.now) (writer (K.held out.old) (K.faults out.old) page.old) (writer (K.held out.new) (K.faults out.new) page.new) result }
+    ensures { Written (flat_map vertex_line points.now)
+        K.held K.faults out.old out.new page.old page.new result }
 {
     for point in points {
-        match write_vertex_line(out, page, *point) {
-            Ok(()) => {}
-            Err(error) => return Err(error),
-        }
+        write_vertex_line(out, page, *point)?;
     }
     Ok(())
 }
@@ -140,7 +126,8 @@ fn write_loose_edge<K: Sink>(
     edge: (u32, u32),
 ) -> Result<(), Unwritten>
     requires { number < length mesh.now.edges.items }
-    ensures { Writes (loose_edge_line (plain_of mesh.now) (number, edge_of edge)) (writer (K.held out.old) (K.faults out.old) page.old) (writer (K.held out.new) (K.faults out.new) page.new) result }
+    ensures { Written (loose_edge_line (plain_of mesh.now) (number, edge_of edge))
+        K.held K.faults out.old out.new page.old page.new result }
 {
     if mesh.loose(number) {
         return write_edge_line(out, page, edge);
@@ -150,13 +137,11 @@ fn write_loose_edge<K: Sink>(
 
 /// Writes the lines of the edges that no face has.
 fn write_loose_edges<K: Sink>(out: &mut K, page: &mut Page, mesh: &Mesh) -> Result<(), Unwritten>
-    ensures { Writes (flat_map (loose_edge_line (plain_of mesh.now)) (enumerate_from 0 (plain_of mesh.now).edges)) (writer (K.held out.old) (K.faults out.old) page.old) (writer (K.held out.new) (K.faults out.new) page.new) result }
+    ensures { Written (loose_edges_text mesh.now)
+        K.held K.faults out.old out.new page.old page.new result }
 {
     for (number, edge) in mesh.topology().edges.iter().enumerate() {
-        match write_loose_edge(out, page, mesh, number as u32, *edge) {
-            Ok(()) => {}
-            Err(error) => return Err(error),
-        }
+        write_loose_edge(out, page, mesh, number as u32, *edge)?;
     }
     Ok(())
 }
@@ -164,13 +149,11 @@ fn write_loose_edges<K: Sink>(out: &mut K, page: &mut Page, mesh: &Mesh) -> Resu
 /// Writes spaces and the numbers of vertices.
 #[inline(always)]
 fn write_vertices<K: Sink>(out: &mut K, page: &mut Page, vertices: &[u32]) -> Result<(), Unwritten>
-    ensures { Writes (flat_map vertex_word vertices.now) (writer (K.held out.old) (K.faults out.old) page.old) (writer (K.held out.new) (K.faults out.new) page.new) result }
+    ensures { Written (flat_map vertex_word vertices.now)
+        K.held K.faults out.old out.new page.old page.new result }
 {
     for vertex in vertices {
-        match write_vertex(out, page, *vertex) {
-            Ok(()) => {}
-            Err(error) => return Err(error),
-        }
+        write_vertex(out, page, *vertex)?;
     }
     Ok(())
 }
@@ -178,16 +161,11 @@ fn write_vertices<K: Sink>(out: &mut K, page: &mut Page, vertices: &[u32]) -> Re
 /// Writes the line of a face.
 #[inline(always)]
 fn write_face<K: Sink>(out: &mut K, page: &mut Page, vertices: &[u32]) -> Result<(), Unwritten>
-    ensures { Writes (face_text vertices.now) (writer (K.held out.old) (K.faults out.old) page.old) (writer (K.held out.new) (K.faults out.new) page.new) result }
+    ensures { Written (face_text vertices.now)
+        K.held K.faults out.old out.new page.old page.new result }
 {
-    match write_text(out, page, b"f") {
-        Ok(()) => {}
-        Err(error) => return Err(error),
-    }
-    match write_vertices(out, page, vertices) {
-        Ok(()) => {}
-        Err(error) => return Err(error),
-    }
+    write_text(out, page, b"f")?;
+    write_vertices(out, page, vertices)?;
     write_text(out, page, b"\n")
 }
 
@@ -199,7 +177,8 @@ fn write_faces<K: Sink>(
     corner_points: &[u32],
 ) -> Result<(), Unwritten>
     requires { AreOffsets (length corner_points.now) offsets.now }
-    ensures { Writes (flat_map face_text (parts_between offsets.now corner_points.now)) (writer (K.held out.old) (K.faults out.old) page.old) (writer (K.held out.new) (K.faults out.new) page.new) result }
+    ensures { Written (faces_text offsets.now corner_points.now)
+        K.held K.faults out.old out.new page.old page.new result }
 {
     let [first, ends @ ..] = offsets else {
         return Ok(());
@@ -207,10 +186,7 @@ fn write_faces<K: Sink>(
     let mut begin = *first as usize;
     for end in ends {
         let end = *end as usize;
-        match write_corners(out, page, corner_points, begin, end) {
-            Ok(()) => {}
-            Err(error) => return Err(error),
-        }
+        write_corners(out, page, corner_points, begin, end)?;
         begin = end;
     }
     Ok(())
@@ -226,23 +202,19 @@ fn write_corners<K: Sink>(
     end: usize,
 ) -> Result<(), Unwritten>
     requires { (begin ≤ end) × (end ≤ length corner_points.now) }
-    ensures { Writes (face_text (slice_range corner_points.now begin end)) (writer (K.held out.old) (K.faults out.old) page.old) (writer (K.held out.new) (K.faults out.new) page.new) result }
+    ensures { Written (face_text (slice_range corner_points.now begin end))
+        K.held K.faults out.old out.new page.old page.new result }
 {
     write_face(out, page, &corner_points[begin..end])
 }
 
 /// Writes the lines of a mesh: its vertices, then the edges that no face has, then its faces.
 fn write_mesh<K: Sink>(out: &mut K, page: &mut Page, mesh: &Mesh) -> Result<(), Unwritten>
-    ensures { Writes (obj_text (of_shape (plain_of mesh.now))) (writer (K.held out.old) (K.faults out.old) page.old) (writer (K.held out.new) (K.faults out.new) page.new) result }
+    ensures { Written (mesh_text mesh.now)
+        K.held K.faults out.old out.new page.old page.new result }
 {
-    match write_points(out, page, mesh.points()) {
-        Ok(()) => {}
-        Err(error) => return Err(error),
-    }
-    match write_loose_edges(out, page, mesh) {
-        Ok(()) => {}
-        Err(error) => return Err(error),
-    }
+    write_points(out, page, mesh.points())?;
+    write_loose_edges(out, page, mesh)?;
     let topology = mesh.topology();
     write_faces(out, page, topology.faces, topology.corner_points)
 }
@@ -255,7 +227,8 @@ fn write_mesh<K: Sink>(out: &mut K, page: &mut Page, mesh: &Mesh) -> Result<(), 
 /// number of bytes that went in, or 2^64 - 1 where there are more; they are a front part of the
 /// text.
 pub fn write_obj<K: Sink>(geometry: &Geometry, out: &mut K) -> Put
-    ensures takes { TakesText (obj_text (plain_geometry geometry.now)) result (K.held out.old) (K.held out.new) }
+    ensures takes { TakesText (obj_text (plain_geometry geometry.now)) result
+        (K.held out.old) (K.held out.new) }
     ensures failed { OnFailedPut result (Rose (K.faults out.old) (K.faults out.new)) }
     ensures faults { K.faults out.old ≤ K.faults out.new }
 {

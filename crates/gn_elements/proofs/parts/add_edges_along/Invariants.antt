@@ -1,7 +1,7 @@
 use Rattle.std.proofs.Common.{◌≡◌, ◌∷◌, fold, drop, filter}
 use Rattle.gn_plain.specs.Edges.{edges_along, with_edge}
 use Rattle.gn_elements.specs.Read.{is_proper}
-use Rattle.gn_elements.specs.Steps.{edges_in}
+use Rattle.gn_edges.specs.Added.{edges_in}
 use Rattle.gn_elements.proofs.parts.add_edges_along.Given as goal
 
 abbrev pub invariant-loop-to : goal.invariant-loop-to

@@ -1,7 +1,7 @@
 use Rattle.std.proofs.Common.{◌≡◌, ◌+◌, ◌≤◌, [], ◌∷◌, ◌++◌, fold, drop, length}
 use Rattle.gn_plain.specs.Edges.{edges_along, edges_around, with_edge}
 use Rattle.gn_elements.specs.Growing.{numbers_among}
-use Rattle.gn_elements.specs.Steps.{edges_in}
+use Rattle.gn_edges.specs.Added.{edges_in}
 use Rattle.gn_elements.proofs.parts.add_edges_around.Given as goal
 
 abbrev pub invariant-loop-to : goal.invariant-loop-to

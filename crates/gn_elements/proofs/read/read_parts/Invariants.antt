@@ -4,9 +4,9 @@ use Rattle.gn_elements.specs.Growing.{fits, none_yet, with_lines}
 use Rattle.gn_elements.specs.Seen.{growing}
 use Rattle.gn_elements.proofs.read.read_parts.Given as goal
 
-abbrev pub invariant-loop-vertices : goal.invariant-loop-vertices
-invariant-loop-vertices l =
+abbrev pub invariant-loop-rule : goal.invariant-loop-rule
+invariant-loop-rule l =
     (with_lines (growing l.parts) l.lines ≡ with_lines none_yet (lines l.bytes)) × (fits (growing l.parts) ≡ true)
 
-abbrev pub decreases-loop-vertices : goal.decreases-loop-vertices
-decreases-loop-vertices l = length (other_lines l.lines)
+abbrev pub decreases-loop-rule : goal.decreases-loop-rule
+decreases-loop-rule l = length (other_lines l.lines)

@@ -1,6 +1,6 @@
 use Rattle.std.proofs.Common.{◌≡◌, [], ◌∷◌, ◌++◌, fold, drop}
 use Rattle.gn_plain.specs.Edges.{edges_along, edges_around, with_edge}
-use Rattle.gn_geom.specs.Edges.{edges_in}
+use Rattle.gn_edges.specs.Added.{edges_in}
 use Rattle.gn_geom.proofs.edges.add_edges_around.Given as goal
 
 abbrev pub invariant-loop-to : goal.invariant-loop-to

@@ -1,7 +1,7 @@
 use Rattle.std.proofs.Common.{◌≡◌, fold, drop}
 use Rattle.std.specs.List.{flat_map}
 use Rattle.gn_plain.specs.Edges.{edges_around, first_seen, with_edge}
-use Rattle.gn_geom.specs.Edges.{edges_in}
+use Rattle.gn_edges.specs.Added.{edges_in}
 use Rattle.gn_geom.proofs.edges.edges_of.Given as goal
 
 abbrev pub invariant-loop-face : goal.invariant-loop-face

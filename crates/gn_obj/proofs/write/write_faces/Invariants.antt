@@ -1,7 +1,7 @@
 use Rattle.std.proofs.Common.{◌∷◌, drop, length}
 use Rattle.std.specs.List.{flat_map}
 use Rattle.gn_plain.specs.Topology.{RiseTo, parts_between}
-use Rattle.gn_obj.specs.FaceTexts.{face_text}
+use Rattle.gn_obj.specs.Texts.{face_text}
 use Rattle.gn_obj.specs.Pages.{writer}
 use Rattle.gn_obj.proofs.PageLemmas.{IsLeft}
 use Rattle.gn_obj.proofs.write.write_faces.Given as goal
