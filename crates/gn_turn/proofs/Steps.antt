@@ -28,6 +28,16 @@ module _ {J E : Type 0} where
   free_bit : (v : View J E) → v.holds ≡ false → turn_of v ≡ 0
   free_bit v free = ap bit free
 
+  -- what the view v is after an event was counted, where it was w
+  pub record Counts (v w : View J E) (now : List E) : Type 0 where
+    pub parts : v.parts ≡ w.parts
+    pub job : v.job ≡ w.job
+    pub known : v.known ≡ now
+    pub holds : v.holds ≡ true
+
+  pub after_count : {X : Type 0} (v w : View J E) (m : View J E × X) (c : X) (known now : List E) (own : ℕ) → v ≡ view m.0.job known m.0.parts own true → m ≡ (w, c) → known ≡ now → Counts v w now
+  after_count v w m c known now own seen put is = record { parts = ap parts_of seen ∙ ap (λ x. x.0.parts) put; job = ap (λ x. x.job) seen ∙ ap (λ x. x.0.job) put; known = ap (λ x. x.known) seen ∙ is; holds = ap (λ x. x.holds) seen }
+
   first_fits : (j : J) (k : ℕ) (u : View J E) → get_elem? (opened j ∷ []) k ≡ some u → Fits j [] u
   first_fits j zero u e = subst (Fits j []) (some-injective (opened j) u e) (inr (record { has_parts = omega arith; same_job = refl; begins = prefix_self []; holder_knows = λ _. refl }))
   first_fits j (suc k) u e = absurd (some-ne-none u (sym e))
