@@ -1,5 +1,5 @@
 -- For the workers of a turn: a state that was taken may be given back where at most one event was added.
-use Rattle.std.proofs.Common.{◌≡◌, ◌++◌, ◌<◌, ◌^◌, ℕ, List, [], ◌∷◌, length, Option, Some, Result, Ok, Err, OnOk, OnErr, arith, sym, ap, ◌∙◌, inl, inr}
+use Rattle.std.proofs.Common.{◌≡◌, ◌++◌, ◌<◌, ◌^◌, List, [], ◌∷◌, length, Some, Result, Ok, Err, OnOk, OnErr, arith, sym, ap, ◌∙◌, inl, inr}
 use Rattle.gn_turn.specs.declared.view.View.{View}
 use Rattle.gn_turn.specs.Holds.{Took, MayGive}
 

@@ -1,5 +1,5 @@
 -- Beginnings of one journal.
-use Rattle.std.proofs.Common.{◌≡◌, ◌++◌, ℕ, Bool, true, false, List, [], ◌∷◌, length, ltb, if◌then◌else◌, refl, sym, ap, ◌∙◌, append_assoc}
+use Rattle.std.proofs.Common.{◌++◌, Bool, true, false, List, [], ◌∷◌, length, ltb, if◌then◌else◌, refl, sym, ap, ◌∙◌, append_assoc}
 use mathlib.Core.List.{IsPrefix}
 use Rattle.gn_turn.specs.Views.{longer}
 

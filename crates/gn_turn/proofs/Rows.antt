@@ -1,12 +1,11 @@
 -- Worked rows: the definitions on small journals of numbers, for the job 5.
-use Rattle.std.proofs.Common.{◌≡◌, ◌<◌, ℕ, zero, suc, Bool, true, false, List, [], ◌∷◌, Option, Some, None, refl, sym, subst, inl, inr, arith}
-use mathlib.Core.Option as maybe
+use Rattle.std.proofs.Common.{◌≡◌, ℕ, zero, suc, Bool, true, false, List, [], ◌∷◌, Option, Some, refl, sym, subst, inl, inr, arith}
 use mathlib.Core.Option.{none, some, some-injective, some-ne-none}
 use lib.ListN.{get_elem?}
 use Rattle.atomic_table.specs.Table.{State}
 use Rattle.gn_turn.specs.declared.view.View.{View}
 use Rattle.gn_turn.specs.Views.{view, opened, spent, longer, gave_part, got_part, joined}
-use Rattle.gn_turn.specs.Rule.{IsLive, Fits, Kept}
+use Rattle.gn_turn.specs.Rule.{Fits, Kept}
 use Rattle.gn_turn.specs.Holds.{OneMore, gave}
 
 abbrev none_yet : List ℕ

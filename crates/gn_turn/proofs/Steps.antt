@@ -1,5 +1,5 @@
 -- Each step on a turn's table keeps the rule.
-use Rattle.std.proofs.Common.{◌≡◌, ◌≢◌, ◌⊎◌, ℕ, zero, suc, ◌+◌, ◌-◌, ◌%◌, ◌^◌, ◌<◌, ◌≤◌, ◌==◌, Bool, true, false, List, [], ◌∷◌, ◌++◌, length, get_or, set, sum_by, slice_index, Option, Some, None, refl, sym, ap, subst, ◌∙◌, inl, inr, ⊎_elim, arith, length-append}
+use Rattle.std.proofs.Common.{◌≡◌, ◌≢◌, ℕ, zero, suc, ◌+◌, ◌%◌, ◌^◌, ◌<◌, ◌≤◌, ◌==◌, Bool, true, false, List, [], ◌∷◌, ◌++◌, length, set, sum_by, slice_index, Option, Some, None, refl, sym, ap, subst, ◌∙◌, inl, inr, ⊎_elim, arith, length-append}
 use Rattle.std.proofs.lemmas.List.Sums.{sum_by_push}
 use mathlib.Core.List.{IsPrefix}
 use mathlib.Core.Option as maybe
@@ -10,7 +10,7 @@ use Rattle.atomic_table.specs.Table.{State, Act, Valid, carried_after, keeps, ta
 use Rattle.atomic_table.proofs.Lists.{at_set, at_snoc, set_again, set_else}
 use Rattle.gn_turn.specs.declared.view.View.{View}
 use Rattle.gn_turn.specs.Views.{bit, view, opened, spent, gave_part, got_part, joined, parts_of, own_of, turn_of}
-use Rattle.gn_turn.specs.Rule.{IsLive, Fits, IsAt, Lies, Kept}
+use Rattle.gn_turn.specs.Rule.{IsLive, Fits, SlotIs, Kept}
 use Rattle.gn_turn.specs.Steps.{Seated, Gains, claimed, counted, added, released}
 use Rattle.gn_turn.specs.Holds.{OneMore}
 use Rattle.gn_turn.proofs.Totals.{total_set, part_of_total, two_of_total, sole}
@@ -46,8 +46,8 @@ module _ {J E : Type 0} where
 pub with_rest : {S : Type 0} (c : List (ℕ × S)) (k : ℕ) (x : S) → c ≡ (k, x) ∷ [] → c ≡ (k, x) ∷ rest c
 with_rest c k x e = e ∙ ap (λ r. (k, x) ∷ r) (sym (ap rest e))
 
-pub alone : {S : Type 0} (c d : List (ℕ × S)) (k : ℕ) (x y : S) → c ≡ (k, x) ∷ rest d → d ≡ (k, y) ∷ [] → c ≡ (k, x) ∷ []
-alone c d k x y e f = e ∙ ap (λ r. (k, x) ∷ r) (ap rest f)
+pub alone : {S X : Type 0} (m : X × List (ℕ × S)) (w : X) (d : List (ℕ × S)) (k : ℕ) (x y : S) → m ≡ (w, (k, x) ∷ rest d) → d ≡ (k, y) ∷ [] → m.1 ≡ (k, x) ∷ []
+alone m w d k x y put e = ap (λ n. n.1) put ∙ ap (λ r. (k, x) ∷ r) (ap rest e)
 
 module _ {S J E : Type 0} (job : S → J) (journal : S → List E) (good : S → Type 0) (j : J) where
   abbrev St : Type 0
@@ -68,9 +68,9 @@ module _ {S J E : Type 0} (job : S → J) (journal : S → List E) (good : S →
   abbrev tried : List ℕ → List ℕ
   tried w = set w 0 (either (slice_index w 0 == 0) 1 (slice_index w 0))
 
-  wins : (s : St) (id : ℕ) (m : Me) (kept : Rule s) → kept.held ≡ false → get_elem? s.views id ≡ some m.0 → 0 < m.0.parts → m.0.holds ≡ false → m.1 ≡ [] → Lies job journal good j kept.log s.homes false
+  wins : (s : St) (id : ℕ) (m : Me) (kept : Rule s) → kept.held ≡ false → get_elem? s.views id ≡ some m.0 → 0 < m.0.parts → m.0.holds ≡ false → m.1 ≡ [] → SlotIs job journal good j kept.log s.homes false
       → (x : S) × (get_elem? s.homes 0 ≡ some (some (Some x))) × Rule (record { words = tried s.words; homes = set s.homes 0 none; views = set s.views id (view m.0.job (journal x) m.0.parts m.0.own true) })
-        × Gains job journal good m (view m.0.job (journal x) m.0.parts m.0.own true, (0, Some x) ∷ m.1)
+      × Gains job journal good m (view m.0.job (journal x) m.0.parts m.0.own true, (0, Some x) ∷ m.1)
   wins s id m kept free at lives out empty lies =
       let x : S = lies.0 in
       let is = lies.2 in
@@ -116,7 +116,7 @@ module _ {S J E : Type 0} (job : S → J) (journal : S → List E) (good : S →
   claims_if false id m lives out empty s kept is at =
       let words : s.words ≡ 0 ∷ length kept.log ∷ [] = kept.words ∙ ap (λ b. bit b ∷ length kept.log ∷ []) is in
       let zero_found : slice_index s.words 0 ≡ 0 = ap (λ w. slice_index w 0) words in
-      let t = wins s id m kept is at lives out empty (subst (Lies job journal good j kept.log s.homes) is kept.slot) in
+      let t = wins s id m kept is at lives out empty (subst (SlotIs job journal good j kept.log s.homes) is kept.slot) in
       (view m.0.job (journal t.0) m.0.parts m.0.own true, takes 0 (Some t.0), t.1, t.2, (λ _. t.3, λ some_found. absurd (some_found zero_found)))
 
   pub claims : (slots id : ℕ) (m : Me) → 0 < m.0.parts → m.0.holds ≡ false → m.1 ≡ [] → Allows Rule slots id m 0 (λ n. either (n == 0) 1 n) (claimed job journal good m)
@@ -142,7 +142,7 @@ module _ {S J E : Type 0} (job : S → J) (journal : S → List E) (good : S →
   holder s id v kept at lives holds = let is = held_by s id v kept at holds in (
     kept.words ∙ ap (λ b. bit b ∷ length kept.log ∷ []) is,
     (live_of j kept.log v (kept.each id v at) lives).holder_knows holds,
-    subst (Lies job journal good j kept.log s.homes) is kept.slot,
+    subst (SlotIs job journal good j kept.log s.homes) is kept.slot,
   )
 
   pub counts : (slots id : ℕ) (m : Me) → 0 < m.0.parts → m.0.holds ≡ true → Allows Rule slots id m 1 (λ n. n) (counted m)

@@ -1,10 +1,10 @@
 -- Sums over the views of a turn's passes.
-use Rattle.std.proofs.Common.{◌≡◌, ◌≢◌, ℕ, zero, suc, ◌+◌, ◌≤◌, ◌<◌, List, [], ◌∷◌, ◌++◌, length, set, sum_by, refl, sym, ap, ◌∙◌, ⊎_elim, arith}
+use Rattle.std.proofs.Common.{◌≡◌, ◌≢◌, ℕ, zero, suc, ◌+◌, ◌≤◌, List, [], ◌∷◌, set, sum_by, refl, sym, ap, ⊎_elim, arith}
 use Rattle.std.proofs.lemmas.List.Sums.{sum_by-cons}
 use mathlib.Core.Option.{some, some-injective, some-ne-none}
 use lib.ListN.{get_elem?}
 use Rattle.gn_turn.specs.declared.view.View.{View}
-use Rattle.gn_turn.specs.Views.{spent, parts_of, own_of}
+use Rattle.gn_turn.specs.Views.{parts_of, own_of}
 use Rattle.gn_turn.specs.Rule.{IsLive, Fits}
 
 module _ {A : Type 0} (f : A → ℕ) where

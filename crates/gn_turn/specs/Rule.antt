@@ -26,16 +26,16 @@ module _ {S J E : Type 0} (job : S → J) (journal : S → List E) (good : S →
     pub journal_is : journal x ≡ log
 
   -- the slot is empty while a pass holds the turn, and else has such a state
-  abbrev pub Lies : J → List E → List (maybe.Option (Option S)) → Bool → Type 0
-  Lies j log homes true = homes ≡ maybe.none ∷ []
-  Lies j log homes false = (x : S) × (homes ≡ maybe.some (Some x) ∷ []) × IsAt j log x
+  abbrev pub SlotIs : J → List E → List (maybe.Option (Option S)) → Bool → Type 0
+  SlotIs j log homes true = homes ≡ maybe.none ∷ []
+  SlotIs j log homes false = (x : S) × (homes ≡ maybe.some (Some x) ∷ []) × IsAt j log x
 
   -- The rule. The log is the list of the events given back so far; the first word is `held`, the second `events`.
   pub record Kept (j : J) (s : State (Option S) (View J E)) : Type 0 where
     pub log : List E
     pub held : Bool
     pub words : s.words ≡ bit held ∷ length log ∷ []
-    pub slot : Lies j log s.homes held
+    pub slot : SlotIs j log s.homes held
     pub all_parts : sum_by parts_of s.views ≡ 128
     pub all_own : sum_by own_of s.views ≡ length log
     pub one_turn : sum_by turn_of s.views ≡ bit held

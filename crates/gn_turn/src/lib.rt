@@ -13,14 +13,13 @@
 #![tactic(auto)]
 
 mod guarded;
-mod law;
 mod pass;
 mod plays;
-mod turn;
-mod view;
-
+mod rule;
 #[cfg(test)]
 mod tests;
+mod turn;
+mod view;
 
 pub use guarded::Guarded;
 pub use pass::{NoTurn, Pass, Turn};

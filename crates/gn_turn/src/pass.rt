@@ -3,7 +3,7 @@ ghost use Rattle.std.specs.Prelude.{◌≡◌, ◌<◌};
 ghost use Rattle.gn_turn.specs.Views.{carried};
 
 use crate::guarded::Guarded;
-use crate::law::Law;
+use crate::rule::Rule;
 use crate::view::View;
 use atomic_table::{Seat, Table};
 use std::alloc::Global;
@@ -12,7 +12,7 @@ use std::snapshot::Snapshot;
 /// A state that one pass at a time takes and gives back.
 #[derive(Drop)]
 pub struct Turn<S: Guarded> {
-    pub(crate) table: Table<Option<S>, View<S::Job, S::Event>, Snapshot<S>, Law<S>, Global>,
+    pub(crate) table: Table<Option<S>, View<S::Job, S::Event>, Snapshot<S>, Rule<S>, Global>,
     ghost sized: { (table.shared.table_id.words ≡ 2) × (table.shared.table_id.slots ≡ 1) },
 }
 

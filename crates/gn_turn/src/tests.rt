@@ -93,7 +93,9 @@ fn write_many<R: Wait>(rt: &R, turn: &Turn<Diary>, pass: &mut Pass<Diary>, entry
 
 #[test]
 fn a_diary_closes_with_what_was_written(rt: HostRuntime) -> Result<(), Fail> {
-    let (turn, mut pass) = Turn::new(rt.alloc(), Diary::new(rt.alloc(), 9)).ok().ok_or("no memory")?;
+    let (turn, mut pass) = Turn::new(rt.alloc(), Diary::new(rt.alloc(), 9))
+        .ok()
+        .ok_or("no memory")?;
     assert!(rt; write_one(&rt, &turn, &mut pass, 7));
     assert!(rt; !write_one(&rt, &turn, &mut pass, 10));
     assert!(rt; write_one(&rt, &turn, &mut pass, 9));
@@ -104,7 +106,9 @@ fn a_diary_closes_with_what_was_written(rt: HostRuntime) -> Result<(), Fail> {
 
 #[test]
 fn a_pass_sees_what_another_gave(rt: HostRuntime) -> Result<(), Fail> {
-    let (turn, mut first) = Turn::new(rt.alloc(), Diary::new(rt.alloc(), 9)).ok().ok_or("no memory")?;
+    let (turn, mut first) = Turn::new(rt.alloc(), Diary::new(rt.alloc(), 9))
+        .ok()
+        .ok_or("no memory")?;
     let mut second = turn.split(&mut first);
     write_one(&rt, &turn, &mut second, 3);
     let diary = turn.take(&rt, &mut first);
@@ -118,7 +122,9 @@ fn a_pass_sees_what_another_gave(rt: HostRuntime) -> Result<(), Fail> {
 
 #[test]
 fn two_threads_write_in_turns(rt: HostRuntime) -> Result<(), Fail> {
-    let (turn, mut first) = Turn::new(rt.alloc(), Diary::new(rt.alloc(), 9)).ok().ok_or("no memory")?;
+    let (turn, mut first) = Turn::new(rt.alloc(), Diary::new(rt.alloc(), 9))
+        .ok()
+        .ok_or("no memory")?;
     let mut second = turn.split(&mut first);
     let (mut here, mut there) = (false, false);
     join_mut(

@@ -115,7 +115,8 @@ impl<S: Guarded> Turn<S> {
         shared.exchange(&mut pass.seat, STATE, None)
     }
 
-    /// Takes the turn and the state. Until then it sleeps while another pass has the turn.
+    /// Takes the turn and the state. While another pass has the turn it sleeps; nothing is promised
+    /// of when it wakes.
     ///
     /// The state is good for the job, and its journal begins with the events that the pass knew.
     /// The pass then knows the whole journal.
@@ -157,8 +158,8 @@ impl<S: Guarded> Turn<S> {
     }
 
     /// Gives the turn back with the state, whose journal is the one that was taken or has one event
-    /// more, and wakes a worker that waits. The pass then knows this journal, and its own events
-    /// are one more where there is one more.
+    /// more, and wakes one worker that sleeps, if there is one. The pass then knows this journal, and
+    /// has one own event more where the journal has.
     pub fn give(&self, pass: &mut Pass<S>, state: S)
         requires own { IsOf self.now pass.old }
         requires holds { (view_of pass.old).holds ≡ true }

@@ -1,4 +1,4 @@
-use Rattle.std.proofs.Common.{rules, ◌≡◌, ◌≢◌, length, sym, ap, ◌∙◌}
+use Rattle.std.proofs.Common.{rules, ◌≢◌, length, sym, ◌∙◌}
 use Rattle.gn_turn.proofs.Steps.{counts, adds_if}
 use Rattle.gn_turn.proofs.pass.Turn.count.Goals as goal
 

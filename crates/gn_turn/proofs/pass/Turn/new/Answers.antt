@@ -1,4 +1,4 @@
-use Rattle.std.proofs.Common.{rules, sym, ap, ◌∙◌}
+use Rattle.std.proofs.Common.{sym, ap}
 use Rattle.gn_turn.proofs.Steps.{starts}
 use Rattle.gn_turn.proofs.pass.Turn.new.Goals as goal
 

@@ -6,11 +6,11 @@ use std::marker::PhantomData;
 use std::snapshot::Snapshot;
 
 /// The rule for states of type `S`. Its key is the state that the turn was made with.
-pub struct Law<S> {
+pub struct Rule<S> {
     marker: PhantomData<S>,
 }
 
-impl<S: Guarded> TableRule<Option<S>, View<S::Job, S::Event>, Snapshot<S>> for Law<S> {
+impl<S: Guarded> TableRule<Option<S>, View<S::Job, S::Event>, Snapshot<S>> for Rule<S> {
     ghost use Rattle.gn_turn.specs.Rule.{Kept};
     ghost use Rattle.gn_turn.specs.Views.{opened};
 
