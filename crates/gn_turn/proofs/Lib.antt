@@ -1,0 +1,5 @@
+pub mod Totals
+pub mod Prefixes
+pub mod Steps
+pub mod Gives
+mod Rows
