@@ -6,12 +6,10 @@ ghost use Rattle.gn_form.specs.Form as is;
 ghost use Rattle.gn_form.specs.Seen.{form_of};
 ghost use Rattle.serde_json.specs.View.{view, items_view, members_view};
 
-use crate::constant::{constant_as, constant_in, three_numbers};
 use crate::form::Form;
 use crate::key::{has_keys, row_in_node};
-use crate::text::{is_column_name, is_file_name, is_id, is_word};
-use gn_kinds::{InputRow, Row, SocketKind, find_kind, find_place, find_row};
-use gn_value::Place;
+use gn_atom::{constant_in, is_atom, is_id};
+use gn_kinds::{InputRow, Row};
 use serde_json::{Map, Value};
 
 fn has_object(items: &[Value]) -> bool
@@ -40,7 +38,7 @@ fn is_input(value: &Value) -> bool
     ensures { result ≡ is.is_input (view value.now) }
 {
     match value {
-        Value::Array(items) => are_links(items) | three_numbers(items).is_some(),
+        Value::Array(items) => are_links(items) | constant_in(value).is_some(),
         Value::Object(_) => has_keys(Form::Link, None, value),
         Value::Null => false,
         Value::Bool(_) => constant_in(value).is_some(),
@@ -94,78 +92,6 @@ fn are_inputs_of(inputs: &'static [InputRow], members: &Map<String, Value>) -> b
     true
 }
 
-fn is_format(value: &Value) -> bool
-    ensures { result ≡ is.fits is.the_format (view value.now) }
-{
-    match value.as_u64() {
-        Some(number) => number == 1,
-        None => false,
-    }
-}
-
-fn is_id_text(value: &Value) -> bool
-    ensures { result ≡ is.fits is.an_id (view value.now) }
-{
-    match value.as_str() {
-        Some(text) => is_id(text),
-        None => false,
-    }
-}
-
-fn is_node_kind(value: &Value) -> bool
-    ensures { result ≡ is.fits is.a_node_kind (view value.now) }
-{
-    match value.as_str() {
-        Some(text) => find_row(text).is_some(),
-        None => false,
-    }
-}
-
-fn is_column_text(value: &Value) -> bool
-    ensures { result ≡ is.fits is.a_column_name (view value.now) }
-{
-    match value.as_str() {
-        Some(text) => is_column_name(text),
-        None => false,
-    }
-}
-
-fn is_file_text(value: &Value) -> bool
-    ensures { result ≡ is.fits is.a_file_name (view value.now) }
-{
-    match value.as_str() {
-        Some(text) => is_file_name(text),
-        None => false,
-    }
-}
-
-fn is_kind_text(kinds: &'static [SocketKind], value: &Value) -> bool
-    ensures { result ≡ is.fits (is.a_kind_in kinds.now) (view value.now) }
-{
-    match value.as_str() {
-        Some(text) => find_kind(kinds, text).is_some(),
-        None => false,
-    }
-}
-
-fn is_word_text(words: &'static [&'static str], value: &Value) -> bool
-    ensures { result ≡ is.fits (is.a_word_of (map (λ w. w.now) words.now)) (view value.now) }
-{
-    match value.as_str() {
-        Some(text) => is_word(words, text),
-        None => false,
-    }
-}
-
-fn is_place_text(places: &'static [Place], value: &Value) -> bool
-    ensures { result ≡ is.fits (is.a_place_in places.now) (view value.now) }
-{
-    match value.as_str() {
-        Some(text) => find_place(places, text).is_some(),
-        None => false,
-    }
-}
-
 fn are_outputs(value: &Value) -> bool
     ensures { result ≡ is.fits is.outputs (view value.now) }
 {
@@ -194,16 +120,7 @@ pub(crate) fn fits(form: Form, value: &Value) -> bool
     ensures { result ≡ is.fits (form_of form) (view value.now) }
 {
     match form {
-        Form::Format => is_format(value),
-        Form::Id => is_id_text(value),
-        Form::NodeKind => is_node_kind(value),
-        Form::Truth => value.as_bool().is_some(),
-        Form::ColumnName => is_column_text(value),
-        Form::FileName => is_file_text(value),
-        Form::KindIn(kinds) => is_kind_text(kinds, value),
-        Form::WordOf(words) => is_word_text(words, value),
-        Form::PlaceIn(places) => is_place_text(places, value),
-        Form::ConstantAs(kind) => constant_as(kind, value).is_some(),
+        Form::Atom(atom) => is_atom(atom, value),
         Form::Groups => value.is_array(),
         Form::Sockets => value.is_array(),
         Form::Nodes => value.is_array(),

@@ -7,14 +7,11 @@
 //! table in `gn_kinds`, the pointers of `gn_pointers` and the decimal texts of `gn_decimal`.
 #![tactic(auto)]
 
-mod constant;
 mod fit;
 mod form;
 mod key;
-mod text;
 mod walk;
 
-pub use constant::{constant_as, constant_in};
 pub use fit::are_links;
 pub use walk::first_misfit;
 

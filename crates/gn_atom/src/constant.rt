@@ -1,6 +1,6 @@
 ghost use Rattle.std.specs.Prelude.{◌≡◌, option_map};
 ghost use Rattle.serde_json.specs.View.{view, items_view};
-ghost use Rattle.gn_form.specs.Constant as spec;
+ghost use Rattle.gn_atom.specs.Constant as spec;
 
 use gn_value::{Fx, V3, ValueKind};
 use serde_json::Value;

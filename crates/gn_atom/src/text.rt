@@ -15,7 +15,7 @@ fn are_id_bytes(bytes: &[u8]) -> bool
 }
 
 /// Whether the text is an id: 1 to 32 of `a` to `z`, `0` to `9` and `_`.
-pub(crate) fn is_id(text: &str) -> bool
+pub fn is_id(text: &str) -> bool
     ensures { result ≡ is.is_id text.now }
 {
     let bytes = text.as_bytes();
