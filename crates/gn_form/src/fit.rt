@@ -1,4 +1,5 @@
-ghost use Rattle.std.specs.Prelude.{◌≡◌, option_map, map};
+ghost use Rattle.std.specs.Prelude.{◌≡◌, option_map, map, bytes_eq, string_bytes};
+ghost use Rattle.std.specs.List.{list_any, list_all};
 ghost use Rattle.gn_kinds.specs.Seen.{row_of, input_of};
 ghost use Rattle.gn_kinds.specs.Row.{input_name as row_input_name, has_input as row_has_input};
 ghost use Rattle.gn_kinds.specs.Text.{is_id};
@@ -13,18 +14,13 @@ use gn_kinds::{InputRow, Row};
 use serde_json::{Map, Value};
 
 fn has_object(items: &[Value]) -> bool
-    ensures { result ≡ is.has_object (items_view items.now) }
+    ensures { result ≡ list_any (λ v. is.is_object (view v)) items.now }
 {
-    for value in items {
-        if value.is_object() {
-            return true;
-        }
-    }
-    false
+    items.iter().any(|value| value.is_object())
 }
 
 /// Whether an array is one of links: it is empty, or has an object.
-#[tactic(auto, using(crate::proofs::Counts::some_links))]
+#[tactic(auto, using(crate::proofs::Elements::some_links))]
 pub fn are_links(items: &[Value]) -> bool
     ensures { result ≡ is.are_links (items_view items.now) }
 {
@@ -60,59 +56,39 @@ fn input_name(input: InputRow) -> &'static str
 }
 
 fn has_input(inputs: &'static [InputRow], key: &str) -> bool
-    ensures { result ≡ row_has_input (map input_of inputs.now) key.now }
+    ensures { result ≡ list_any (λ x. bytes_eq (row_input_name (input_of x)) key.now) inputs.now }
 {
-    for input in inputs {
-        if input_name(*input) == key {
-            return true;
-        }
-    }
-    false
+    inputs.iter().any(|input| input_name(*input) == key)
 }
 
 fn are_ids(members: &Map<String, Value>) -> bool
-    ensures { result ≡ is.all_keys is_id (members_view members.now.entries) }
+    ensures { result ≡ list_all (λ m. is_id (string_bytes m.0)) members.now.entries }
 {
-    for (key, _member) in members.iter() {
-        if !is_id(key) {
-            return false;
-        }
-    }
-    true
+    members.iter().all(|(key, _member)| is_id(key))
 }
 
 fn are_inputs_of(inputs: &'static [InputRow], members: &Map<String, Value>) -> bool
-    ensures { result ≡ is.all_keys (row_has_input (map input_of inputs.now)) (members_view members.now.entries) }
+    ensures { result ≡ list_all
+        (λ m. list_any (λ x. bytes_eq (row_input_name (input_of x)) (string_bytes m.0)) inputs.now)
+        members.now.entries }
 {
-    for (key, _member) in members.iter() {
-        if !has_input(inputs, key) {
-            return false;
-        }
-    }
-    true
+    members.iter().all(|(key, _member)| has_input(inputs, key))
 }
 
+#[tactic(auto, using(crate::proofs::Elements::each_key))]
 fn are_outputs(value: &Value) -> bool
     ensures { result ≡ is.fits is.outputs (view value.now) }
 {
-    match value.as_object() {
-        Some(members) => are_ids(members),
-        None => false,
-    }
+    value.as_object().is_some_and(|members| are_ids(members))
 }
 
+#[tactic(auto, using(crate::proofs::Elements::each_input))]
 fn are_inputs(row: &'static Row, value: &Value) -> bool
     ensures { result ≡ is.fits (is.inputs_of (row_of row.now)) (view value.now) }
 {
-    match value.as_object() {
-        Some(members) => {
-            if row.open {
-                return true;
-            }
-            are_inputs_of(row.inputs, members)
-        }
-        None => false,
-    }
+    value
+        .as_object()
+        .is_some_and(|members| row.open || are_inputs_of(row.inputs, members))
 }
 
 /// Whether the value is of its form; what stands in it is not looked at.
