@@ -44,7 +44,7 @@ fn is_word_text(words: &'static [&'static str], value: &Value) -> bool
     }
 }
 
-/// Whether the value is such an atom.
+/// Reports whether a value is such an atom.
 pub fn is_atom(atom: Atom, value: &Value) -> bool
     ensures { result ≡ is.is_atom (atom_of atom) (view value.now) }
 {

@@ -1,8 +1,7 @@
 use crate::{Atom, constant_in, is_atom};
 use gn_kinds::SocketKind;
-use gn_value::{Place, ValueKind};
+use gn_value::{Fx, Place, V3, Value as Constant, ValueKind};
 use serde_json::Value;
-use std::process::Abort;
 use std::test::Fail;
 
 /// Values, and whether each is the atom: of whole numbers, ids, names and truths.
@@ -115,35 +114,52 @@ fn ids_and_names_have_a_greatest_length(rt: HostRuntime) -> Result<(), Fail> {
     Ok(())
 }
 
-/// Values, and whether each is a constant: the numbers that are no whole ones of 32 bits, and the texts
-/// that are no numbers.
-static VALUES: [(&str, bool); 19] = [
-    ("null", false),
-    ("{}", false),
-    ("0", true),
-    ("-1", true),
-    ("2147483648", false),
-    ("-2147483649", false),
-    ("9223372036854775808", false),
-    ("18446744073709551616", false),
-    ("-9223372036854775809", false),
-    ("-0", false),
-    ("1.0", false),
-    ("1e0", false),
-    (r#""1e99""#, true),
-    (r#""1e400""#, false),
-    (r#""""#, false),
-    (r#"["1","2","3"]"#, true),
-    (r#"["1","2","3","4"]"#, false),
-    (r#"["1","2",3]"#, false),
-    ("[[]]", false),
+/// Values, and the constant that each is; raw numbers are 2^32 for each whole. No constant are the
+/// numbers that are no whole ones of 32 bits, and the texts that are no numbers.
+static VALUES: [(&str, Option<Constant>); 26] = [
+    ("null", None),
+    ("{}", None),
+    ("true", Some(Constant::Truth(true))),
+    ("false", Some(Constant::Truth(false))),
+    ("0", Some(Constant::Int(0))),
+    ("-7", Some(Constant::Int(-7))),
+    ("2147483647", Some(Constant::Int(2_147_483_647))),
+    ("2147483648", None),
+    ("-2147483648", Some(Constant::Int(-2_147_483_648))),
+    ("-2147483649", None),
+    ("9223372036854775808", None),
+    ("18446744073709551616", None),
+    ("-9223372036854775809", None),
+    ("-0", None),
+    ("1.0", None),
+    ("1e0", None),
+    (r#""0.5""#, Some(Constant::Fixed(Fx(2_147_483_648)))),
+    (r#""-3""#, Some(Constant::Fixed(Fx(-12_884_901_888)))),
+    (r#""1e-2""#, Some(Constant::Fixed(Fx(42_949_673)))),
+    (
+        r#""1e99""#,
+        Some(Constant::Fixed(Fx(9_223_372_036_854_775_807))),
+    ),
+    (r#""1e400""#, None),
+    (r#""""#, None),
+    (
+        r#"["1","-2","0.25"]"#,
+        Some(Constant::Vector(V3 {
+            x: Fx(4_294_967_296),
+            y: Fx(-8_589_934_592),
+            z: Fx(1_073_741_824),
+        })),
+    ),
+    (r#"["1","2","3","4"]"#, None),
+    (r#"["1","2",3]"#, None),
+    ("[[]]", None),
 ];
 
 #[test]
-fn tells_constants_from_other_values(rt: HostRuntime) -> Result<(), Fail> {
-    for (text, good) in VALUES {
+fn gives_the_constants_that_values_are(rt: HostRuntime) -> Result<(), Fail> {
+    for (text, wanted) in VALUES {
         let value = Value::from_slice(rt.alloc(), text.as_bytes())?;
-        assert_eq!(rt; constant_in(&value).is_some(), good, "{text}");
+        assert!(rt; constant_in(&value) == wanted, "{text}");
     }
     Ok(())
 }

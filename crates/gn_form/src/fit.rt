@@ -19,7 +19,7 @@ fn has_object(items: &[Value]) -> bool
     items.iter().any(|value| value.is_object())
 }
 
-/// Whether an array is one of links: it is empty, or has an object.
+/// Reports whether an array is one of links: it is empty, or has an object.
 #[tactic(auto, using(crate::proofs::Elements::some_links))]
 pub fn are_links(items: &[Value]) -> bool
     ensures { result ≡ is.are_links (items_view items.now) }
@@ -91,7 +91,7 @@ fn are_inputs(row: &'static Row, value: &Value) -> bool
         .is_some_and(|members| row.open || are_inputs_of(row.inputs, members))
 }
 
-/// Whether the value is of its form; what stands in it is not looked at.
+/// Reports whether a value is of its form by itself, whatever its parts are.
 pub(crate) fn fits(form: Form, value: &Value) -> bool
     ensures { result ≡ is.fits (form_of form) (view value.now) }
 {

@@ -24,12 +24,13 @@ pub(crate) enum Form {
     Outputs,
     InputsOf(&'static Row),
     SettingsOf(&'static Row),
-    /// The inputs and settings of a node whose kind is none.
+    /// The inputs of a node whose kind has no row.
     AnyInputs,
+    /// The settings of a node whose kind has no row.
     AnyObject,
 }
 
-/// The key of a setting.
+/// Returns the key of a setting.
 pub(crate) fn setting_name(setting: SettingForm) -> &'static str
     ensures { result.now ≡ (is.setting_key (setting_of setting)).name }
 {
@@ -48,14 +49,14 @@ pub(crate) fn setting_name(setting: SettingForm) -> &'static str
     }
 }
 
-/// Whether a setting is required.
+/// Reports whether a setting is required.
 pub(crate) fn is_required(setting: SettingForm) -> bool
     ensures { result ≡ (is.setting_key (setting_of setting)).needed }
 {
     !matches!(setting, SettingForm::Output)
 }
 
-/// What the value of a setting must be.
+/// Returns what the value of a setting must be.
 pub(crate) fn setting_form(setting: SettingForm) -> Form
     ensures { form_of result ≡ (is.setting_key (setting_of setting)).form }
 {

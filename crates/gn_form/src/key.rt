@@ -11,7 +11,7 @@ use gn_atom::Atom;
 use gn_kinds::{Row, SettingForm, find_row, socket_kinds};
 use serde_json::{Map, Value};
 
-/// The row of a node's kind, if it has one.
+/// Returns the row of a node's kind, if it has one.
 pub(crate) fn row_in_node(value: &Value) -> Option<&'static Row>
     ensures { option_map (λ row. row_of row.now) result ≡ is.row_in_node (view value.now) }
 {
@@ -129,8 +129,8 @@ fn node_member(row: Option<&'static Row>, key: &str) -> Option<Form>
     None
 }
 
-/// What must stand under a key of an object; `None` for a key that it doesn't have. `row` is that of
-/// a node.
+/// Returns what must stand under a key of an object, and `None` for a key that the object doesn't have.
+/// `row` is the row of a node's kind.
 pub(crate) fn member_form(form: Form, row: Option<&'static Row>, key: &str) -> Option<Form>
     ensures { option_map form_of result
         ≡ is.member_form (form_of form) (option_map (λ row. row_of row.now) row.entry) key.now }
@@ -193,7 +193,7 @@ fn is_node_complete(row: Option<&'static Row>, value: &Value) -> bool
     }
 }
 
-/// Whether each key that must be there is.
+/// Reports whether each key that must be there is.
 fn is_complete(form: Form, row: Option<&'static Row>, value: &Value) -> bool
     ensures { result ≡ is.are_there (is.keys_of (form_of form) (option_map (λ row. row_of row.now) row.entry)) (view value.now) }
 {
@@ -212,7 +212,7 @@ fn is_complete(form: Form, row: Option<&'static Row>, value: &Value) -> bool
     }
 }
 
-/// Whether no key is unknown.
+/// Reports whether no key is unknown.
 fn is_known(form: Form, row: Option<&'static Row>, members: &Map<String, Value>) -> bool
     ensures { result ≡ is.all_keys
         (λ k. is_some (is.member_form (form_of form) (option_map (λ row. row_of row.now) row.entry) k))
@@ -226,7 +226,7 @@ fn is_known(form: Form, row: Option<&'static Row>, members: &Map<String, Value>)
     true
 }
 
-/// Whether the value is an object with just the keys of the form.
+/// Reports whether the value is an object with just the keys of the form.
 pub(crate) fn has_keys(form: Form, row: Option<&'static Row>, value: &Value) -> bool
     ensures { result ≡ is.has_keys (form_of form) (option_map (λ row. row_of row.now) row.entry) (view value.now) }
 {
