@@ -1,3 +1,3 @@
-pub mod Counts
+pub mod Elements
 pub mod Sorted
 pub mod Exact

@@ -1,27 +1,20 @@
 -- The forms of a tree in JSON: what a value must be, and what its parts must be.
-use Rattle.std.specs.Prelude.{◌≡◌, ℕ, suc, Bool, true, false, not, ◌&&◌, ◌||◌, ◌==◌, List, [], ◌∷◌, codes, Option, Some, None, option_and_then, option_map, is_some, find, map, bytes_eq, if◌then◌else◌}
+use Rattle.std.specs.Prelude.{◌≡◌, ℕ, suc, Bool, true, false, not, ◌&&◌, ◌||◌, List, [], ◌∷◌, codes, Option, Some, None, option_and_then, option_map, is_some, find, map, bytes_eq, if◌then◌else◌}
 use Rattle.std.specs.Option.{option_map_or}
 use Rattle.std.specs.List.{list_all, list_any}
 use Rattle.serde_json.specs.Data.{Data, array, object, Items, no_items, item, Members, no_members, member}
-use Rattle.serde_json.specs.Find.{get, as_bool, as_str, as_array, as_object, as_number, as_u64}
-use Rattle.gn_value.specs.declared.value.Place.{Place}
-use Rattle.gn_value.specs.declared.value.ValueKind.{ValueKind}
-use Rattle.gn_kinds.specs.declared.row.SocketKind.{SocketKind}
-use Rattle.gn_kinds.specs.Names.{kind_named, place_named}
+use Rattle.serde_json.specs.Find.{get, as_str, as_array, as_object}
 use Rattle.gn_kinds.specs.Row.{Text, Setting, type_in, op_in, place_in, a_clamp, a_name, a_file, value_of, group_name, zone_items, zone_nodes, zone_output, has_input, KindRow}
 use Rattle.gn_kinds.specs.Table.{any_kind, row_of_kind}
 use Rattle.gn_pointers.specs.Pointers.{Step, index, key, IsBadAt, Pointer as At}
-use Rattle.gn_kinds.specs.Text.{is_id, is_column_name, is_file_name, is_word}
-use Rattle.gn_form.specs.Constant.{constant_as, constant_in, three_numbers}
+use Rattle.gn_kinds.specs.Text.{is_id}
+use Rattle.gn_atom.specs.Atom.{Atom, the_format, an_id, a_node_kind, a_truth, a_column_name, a_file_name, a_kind_in, a_word_of, a_place_in, a_constant_as, is_atom}
+use Rattle.gn_atom.specs.Constant.{constant_in, three_numbers}
 
 -- what a value must be
 pub data Form : Type 0 where
   a_tree a_group a_socket a_node a_link an_input : Form
-  the_format an_id a_node_kind a_truth a_column_name a_file_name : Form
-  a_kind_in : List SocketKind → Form
-  a_word_of : List Text → Form
-  a_place_in : List Place → Form
-  a_constant_as : ValueKind → Form
+  an_atom : Atom → Form
   groups sockets nodes : Form
   -- an object from ids to inputs
   outputs : Form
@@ -42,14 +35,14 @@ abbrev pub may_have : Text → Form → Key
 may_have name form = record { name = name; needed = false; form = form }
 
 abbrev pub setting_key : Setting → Key
-setting_key (type_in kinds) = needs (codes "type") (a_kind_in kinds)
-setting_key (op_in names) = needs (codes "op") (a_word_of names)
-setting_key (place_in places) = needs (codes "place") (a_place_in places)
-setting_key a_clamp = needs (codes "clamp") a_truth
-setting_key a_name = needs (codes "name") a_column_name
-setting_key a_file = needs (codes "file") a_file_name
-setting_key (value_of kind) = needs (codes "value") (a_constant_as kind)
-setting_key group_name = needs (codes "group") an_id
+setting_key (type_in kinds) = needs (codes "type") (an_atom (a_kind_in kinds))
+setting_key (op_in names) = needs (codes "op") (an_atom (a_word_of names))
+setting_key (place_in places) = needs (codes "place") (an_atom (a_place_in places))
+setting_key a_clamp = needs (codes "clamp") (an_atom a_truth)
+setting_key a_name = needs (codes "name") (an_atom a_column_name)
+setting_key a_file = needs (codes "file") (an_atom a_file_name)
+setting_key (value_of kind) = needs (codes "value") (an_atom (a_constant_as kind))
+setting_key group_name = needs (codes "group") (an_atom an_id)
 setting_key zone_items = needs (codes "items") sockets
 setting_key zone_nodes = needs (codes "nodes") nodes
 setting_key zone_output = may_have (codes "output") outputs
@@ -60,18 +53,18 @@ row_in_node d = option_and_then row_of_kind (option_and_then as_str (get (codes 
 
 -- where a required setting is in no `set`, it is a key that is missing in the node
 abbrev pub node_keys : Option KindRow → List Key
-node_keys None = needs (codes "id") an_id ∷ may_have (codes "in") any_inputs ∷ needs (codes "kind") a_node_kind ∷ may_have (codes "set") any_object ∷ []
+node_keys None = needs (codes "id") (an_atom an_id) ∷ may_have (codes "in") any_inputs ∷ needs (codes "kind") (an_atom a_node_kind) ∷ may_have (codes "set") any_object ∷ []
 node_keys (Some row) =
-    needs (codes "id") an_id ∷ may_have (codes "in") (inputs_of row) ∷ needs (codes "kind") a_node_kind ∷
+    needs (codes "id") (an_atom an_id) ∷ may_have (codes "in") (inputs_of row) ∷ needs (codes "kind") (an_atom a_node_kind) ∷
     record { name = codes "set"; needed = list_any (λ s. (setting_key s).needed) row.settings; form = settings_of row } ∷ []
 
 -- the keys of an object; of a node's they go by its row
 abbrev pub keys_of : Form → Option KindRow → List Key
-keys_of a_tree row = needs (codes "format") the_format ∷ may_have (codes "groups") groups ∷ needs (codes "nodes") nodes ∷ may_have (codes "output") an_input ∷ []
-keys_of a_group row = needs (codes "inputs") sockets ∷ needs (codes "name") an_id ∷ needs (codes "nodes") nodes ∷ may_have (codes "output") outputs ∷ needs (codes "outputs") sockets ∷ []
-keys_of a_socket row = needs (codes "kind") (a_kind_in any_kind) ∷ needs (codes "name") an_id ∷ []
-keys_of a_link row = needs (codes "from") an_id ∷ needs (codes "socket") an_id ∷ []
-keys_of an_input row = needs (codes "from") an_id ∷ needs (codes "socket") an_id ∷ []
+keys_of a_tree row = needs (codes "format") (an_atom the_format) ∷ may_have (codes "groups") groups ∷ needs (codes "nodes") nodes ∷ may_have (codes "output") an_input ∷ []
+keys_of a_group row = needs (codes "inputs") sockets ∷ needs (codes "name") (an_atom an_id) ∷ needs (codes "nodes") nodes ∷ may_have (codes "output") outputs ∷ needs (codes "outputs") sockets ∷ []
+keys_of a_socket row = needs (codes "kind") (an_atom (a_kind_in any_kind)) ∷ needs (codes "name") (an_atom an_id) ∷ []
+keys_of a_link row = needs (codes "from") (an_atom an_id) ∷ needs (codes "socket") (an_atom an_id) ∷ []
+keys_of an_input row = needs (codes "from") (an_atom an_id) ∷ needs (codes "socket") (an_atom an_id) ∷ []
 keys_of a_node row = node_keys row
 keys_of (settings_of kind) row = map setting_key kind.settings
 keys_of _ row = []
@@ -87,9 +80,6 @@ member_form (inputs_of kind) row k = Some an_input
 member_form form row k = option_map (λ key. key.form) (named (keys_of form row) k)
 
 -- ---- is a value of its form? what stands in an array or an object is looked at by itself
-
-abbrev pub is_text : (Text → Bool) → Data → Bool
-is_text good d = option_map_or good (as_str d) false
 
 abbrev pub is_object : Data → Bool
 is_object d = is_some (as_object d)
@@ -125,16 +115,7 @@ is_input (object ms) = has_keys a_link None (object ms)
 is_input d = is_some (constant_in d)
 
 abbrev pub fits : Form → Data → Bool
-fits the_format d = option_map_or (λ n. n == 1) (option_and_then as_u64 (as_number d)) false
-fits an_id d = is_text is_id d
-fits a_node_kind d = is_text (λ k. is_some (row_of_kind k)) d
-fits a_truth d = is_some (as_bool d)
-fits a_column_name d = is_text is_column_name d
-fits a_file_name d = is_text is_file_name d
-fits (a_kind_in kinds) d = is_text (λ k. is_some (kind_named kinds k)) d
-fits (a_word_of words) d = is_text (is_word words) d
-fits (a_place_in places) d = is_text (λ p. is_some (place_named places p)) d
-fits (a_constant_as kind) d = is_some (constant_as kind d)
+fits (an_atom atom) d = is_atom atom d
 fits groups d = is_some (as_array d)
 fits sockets d = is_some (as_array d)
 fits nodes d = is_some (as_array d)

@@ -1,4 +1,3 @@
-pub mod Constant
 pub mod Form
 pub mod Walk
 pub mod Order

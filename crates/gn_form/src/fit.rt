@@ -1,4 +1,5 @@
-ghost use Rattle.std.specs.Prelude.{◌≡◌, option_map, map};
+ghost use Rattle.std.specs.Prelude.{◌≡◌, option_map, map, bytes_eq, string_bytes};
+ghost use Rattle.std.specs.List.{list_any, list_all};
 ghost use Rattle.gn_kinds.specs.Seen.{row_of, input_of};
 ghost use Rattle.gn_kinds.specs.Row.{input_name as row_input_name, has_input as row_has_input};
 ghost use Rattle.gn_kinds.specs.Text.{is_id};
@@ -6,27 +7,20 @@ ghost use Rattle.gn_form.specs.Form as is;
 ghost use Rattle.gn_form.specs.Seen.{form_of};
 ghost use Rattle.serde_json.specs.View.{view, items_view, members_view};
 
-use crate::constant::{constant_as, constant_in, three_numbers};
 use crate::form::Form;
 use crate::key::{has_keys, row_in_node};
-use crate::text::{is_column_name, is_file_name, is_id, is_word};
-use gn_kinds::{InputRow, Row, SocketKind, find_kind, find_place, find_row};
-use gn_value::Place;
+use gn_atom::{constant_in, is_atom, is_id};
+use gn_kinds::{InputRow, Row};
 use serde_json::{Map, Value};
 
 fn has_object(items: &[Value]) -> bool
-    ensures { result ≡ is.has_object (items_view items.now) }
+    ensures { result ≡ list_any (λ v. is.is_object (view v)) items.now }
 {
-    for value in items {
-        if value.is_object() {
-            return true;
-        }
-    }
-    false
+    items.iter().any(|value| value.is_object())
 }
 
-/// Whether an array is one of links: it is empty, or has an object.
-#[tactic(auto, using(crate::proofs::Counts::some_links))]
+/// Reports whether an array is one of links: it is empty, or has an object.
+#[tactic(auto, using(crate::proofs::Elements::some_links))]
 pub fn are_links(items: &[Value]) -> bool
     ensures { result ≡ is.are_links (items_view items.now) }
 {
@@ -40,7 +34,7 @@ fn is_input(value: &Value) -> bool
     ensures { result ≡ is.is_input (view value.now) }
 {
     match value {
-        Value::Array(items) => are_links(items) | three_numbers(items).is_some(),
+        Value::Array(items) => are_links(items) | constant_in(value).is_some(),
         Value::Object(_) => has_keys(Form::Link, None, value),
         Value::Null => false,
         Value::Bool(_) => constant_in(value).is_some(),
@@ -62,148 +56,47 @@ fn input_name(input: InputRow) -> &'static str
 }
 
 fn has_input(inputs: &'static [InputRow], key: &str) -> bool
-    ensures { result ≡ row_has_input (map input_of inputs.now) key.now }
+    ensures { result ≡ list_any (λ x. bytes_eq (row_input_name (input_of x)) key.now) inputs.now }
 {
-    for input in inputs {
-        if input_name(*input) == key {
-            return true;
-        }
-    }
-    false
+    inputs.iter().any(|input| input_name(*input) == key)
 }
 
 fn are_ids(members: &Map<String, Value>) -> bool
-    ensures { result ≡ is.all_keys is_id (members_view members.now.entries) }
+    ensures { result ≡ list_all (λ m. is_id (string_bytes m.0)) members.now.entries }
 {
-    for (key, _member) in members.iter() {
-        if !is_id(key) {
-            return false;
-        }
-    }
-    true
+    members.iter().all(|(key, _member)| is_id(key))
 }
 
 fn are_inputs_of(inputs: &'static [InputRow], members: &Map<String, Value>) -> bool
-    ensures { result ≡ is.all_keys (row_has_input (map input_of inputs.now)) (members_view members.now.entries) }
+    ensures { result ≡ list_all
+        (λ m. list_any (λ x. bytes_eq (row_input_name (input_of x)) (string_bytes m.0)) inputs.now)
+        members.now.entries }
 {
-    for (key, _member) in members.iter() {
-        if !has_input(inputs, key) {
-            return false;
-        }
-    }
-    true
+    members.iter().all(|(key, _member)| has_input(inputs, key))
 }
 
-fn is_format(value: &Value) -> bool
-    ensures { result ≡ is.fits is.the_format (view value.now) }
-{
-    match value.as_u64() {
-        Some(number) => number == 1,
-        None => false,
-    }
-}
-
-fn is_id_text(value: &Value) -> bool
-    ensures { result ≡ is.fits is.an_id (view value.now) }
-{
-    match value.as_str() {
-        Some(text) => is_id(text),
-        None => false,
-    }
-}
-
-fn is_node_kind(value: &Value) -> bool
-    ensures { result ≡ is.fits is.a_node_kind (view value.now) }
-{
-    match value.as_str() {
-        Some(text) => find_row(text).is_some(),
-        None => false,
-    }
-}
-
-fn is_column_text(value: &Value) -> bool
-    ensures { result ≡ is.fits is.a_column_name (view value.now) }
-{
-    match value.as_str() {
-        Some(text) => is_column_name(text),
-        None => false,
-    }
-}
-
-fn is_file_text(value: &Value) -> bool
-    ensures { result ≡ is.fits is.a_file_name (view value.now) }
-{
-    match value.as_str() {
-        Some(text) => is_file_name(text),
-        None => false,
-    }
-}
-
-fn is_kind_text(kinds: &'static [SocketKind], value: &Value) -> bool
-    ensures { result ≡ is.fits (is.a_kind_in kinds.now) (view value.now) }
-{
-    match value.as_str() {
-        Some(text) => find_kind(kinds, text).is_some(),
-        None => false,
-    }
-}
-
-fn is_word_text(words: &'static [&'static str], value: &Value) -> bool
-    ensures { result ≡ is.fits (is.a_word_of (map (λ w. w.now) words.now)) (view value.now) }
-{
-    match value.as_str() {
-        Some(text) => is_word(words, text),
-        None => false,
-    }
-}
-
-fn is_place_text(places: &'static [Place], value: &Value) -> bool
-    ensures { result ≡ is.fits (is.a_place_in places.now) (view value.now) }
-{
-    match value.as_str() {
-        Some(text) => find_place(places, text).is_some(),
-        None => false,
-    }
-}
-
+#[tactic(auto, using(crate::proofs::Elements::each_key))]
 fn are_outputs(value: &Value) -> bool
     ensures { result ≡ is.fits is.outputs (view value.now) }
 {
-    match value.as_object() {
-        Some(members) => are_ids(members),
-        None => false,
-    }
+    value.as_object().is_some_and(|members| are_ids(members))
 }
 
+#[tactic(auto, using(crate::proofs::Elements::each_input))]
 fn are_inputs(row: &'static Row, value: &Value) -> bool
     ensures { result ≡ is.fits (is.inputs_of (row_of row.now)) (view value.now) }
 {
-    match value.as_object() {
-        Some(members) => {
-            if row.open {
-                return true;
-            }
-            are_inputs_of(row.inputs, members)
-        }
-        None => false,
-    }
+    value
+        .as_object()
+        .is_some_and(|members| row.open || are_inputs_of(row.inputs, members))
 }
 
-/// Whether the value is of its form; what stands in it is not looked at.
+/// Reports whether a value is of its form by itself, whatever its parts are.
 pub(crate) fn fits(form: Form, value: &Value) -> bool
     ensures { result ≡ is.fits (form_of form) (view value.now) }
 {
     match form {
-        Form::Format => is_format(value),
-        Form::Id => is_id_text(value),
-        Form::NodeKind => is_node_kind(value),
-        Form::Truth => value.as_bool().is_some(),
-        Form::ColumnName => is_column_text(value),
-        Form::FileName => is_file_text(value),
-        Form::KindIn(kinds) => is_kind_text(kinds, value),
-        Form::WordOf(words) => is_word_text(words, value),
-        Form::PlaceIn(places) => is_place_text(places, value),
-        Form::ConstantAs(kind) => constant_as(kind, value).is_some(),
+        Form::Atom(atom) => is_atom(atom, value),
         Form::Groups => value.is_array(),
         Form::Sockets => value.is_array(),
         Form::Nodes => value.is_array(),

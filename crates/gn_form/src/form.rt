@@ -3,8 +3,8 @@ ghost use Rattle.gn_kinds.specs.Seen.{setting_of};
 ghost use Rattle.gn_form.specs.Form as is;
 ghost use Rattle.gn_form.specs.Seen.{form_of};
 
-use gn_kinds::{Row, SettingForm, SocketKind};
-use gn_value::{Place, ValueKind};
+use gn_atom::Atom;
+use gn_kinds::{Row, SettingForm};
 
 /// What a value must be.
 #[derive(Clone, Copy)]
@@ -15,16 +15,8 @@ pub(crate) enum Form {
     Node,
     Link,
     Input,
-    Format,
-    Id,
-    NodeKind,
-    Truth,
-    ColumnName,
-    FileName,
-    KindIn(&'static [SocketKind]),
-    WordOf(&'static [&'static str]),
-    PlaceIn(&'static [Place]),
-    ConstantAs(ValueKind),
+    /// A value that is looked at as a whole.
+    Atom(Atom),
     Groups,
     Sockets,
     Nodes,
@@ -32,12 +24,13 @@ pub(crate) enum Form {
     Outputs,
     InputsOf(&'static Row),
     SettingsOf(&'static Row),
-    /// The inputs and settings of a node whose kind is none.
+    /// The inputs of a node whose kind has no row.
     AnyInputs,
+    /// The settings of a node whose kind has no row.
     AnyObject,
 }
 
-/// The key of a setting.
+/// Returns the key of a setting.
 pub(crate) fn setting_name(setting: SettingForm) -> &'static str
     ensures { result.now ≡ (is.setting_key (setting_of setting)).name }
 {
@@ -56,26 +49,26 @@ pub(crate) fn setting_name(setting: SettingForm) -> &'static str
     }
 }
 
-/// Whether a setting is required.
+/// Reports whether a setting is required.
 pub(crate) fn is_required(setting: SettingForm) -> bool
     ensures { result ≡ (is.setting_key (setting_of setting)).needed }
 {
     !matches!(setting, SettingForm::Output)
 }
 
-/// What the value of a setting must be.
+/// Returns what the value of a setting must be.
 pub(crate) fn setting_form(setting: SettingForm) -> Form
     ensures { form_of result ≡ (is.setting_key (setting_of setting)).form }
 {
     match setting {
-        SettingForm::Type(kinds) => Form::KindIn(kinds),
-        SettingForm::Op(names) => Form::WordOf(names),
-        SettingForm::Place(places) => Form::PlaceIn(places),
-        SettingForm::Clamp => Form::Truth,
-        SettingForm::Name => Form::ColumnName,
-        SettingForm::File => Form::FileName,
-        SettingForm::Value(kind) => Form::ConstantAs(kind),
-        SettingForm::Group => Form::Id,
+        SettingForm::Type(kinds) => Form::Atom(Atom::KindIn(kinds)),
+        SettingForm::Op(names) => Form::Atom(Atom::WordOf(names)),
+        SettingForm::Place(places) => Form::Atom(Atom::PlaceIn(places)),
+        SettingForm::Clamp => Form::Atom(Atom::Truth),
+        SettingForm::Name => Form::Atom(Atom::ColumnName),
+        SettingForm::File => Form::Atom(Atom::FileName),
+        SettingForm::Value(kind) => Form::Atom(Atom::ConstantAs(kind)),
+        SettingForm::Group => Form::Atom(Atom::Id),
         SettingForm::Items => Form::Sockets,
         SettingForm::Nodes => Form::Nodes,
         SettingForm::Output => Form::Outputs,

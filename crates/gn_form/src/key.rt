@@ -7,10 +7,11 @@ ghost use Rattle.serde_json.specs.View.{view, members_view};
 ghost use Rattle.serde_json.specs.Find.{get};
 
 use crate::form::{Form, is_required, setting_form, setting_name};
+use gn_atom::Atom;
 use gn_kinds::{Row, SettingForm, find_row, socket_kinds};
 use serde_json::{Map, Value};
 
-/// The row of a node's kind, if it has one.
+/// Returns the row of a node's kind, if it has one.
 pub(crate) fn row_in_node(value: &Value) -> Option<&'static Row>
     ensures { option_map (λ row. row_of row.now) result ≡ is.row_in_node (view value.now) }
 {
@@ -44,7 +45,7 @@ fn tree_member(key: &str) -> Option<Form>
     ensures { option_map form_of result ≡ is.member_form is.a_tree None key.now }
 {
     if "format" == key {
-        return Some(Form::Format);
+        return Some(Form::Atom(Atom::Format));
     }
     if "groups" == key {
         return Some(Form::Groups);
@@ -65,7 +66,7 @@ fn group_member(key: &str) -> Option<Form>
         return Some(Form::Sockets);
     }
     if "name" == key {
-        return Some(Form::Id);
+        return Some(Form::Atom(Atom::Id));
     }
     if "nodes" == key {
         return Some(Form::Nodes);
@@ -83,10 +84,10 @@ fn socket_member(key: &str) -> Option<Form>
     ensures { option_map form_of result ≡ is.member_form is.a_socket None key.now }
 {
     if "kind" == key {
-        return Some(Form::KindIn(socket_kinds()));
+        return Some(Form::Atom(Atom::KindIn(socket_kinds())));
     }
     if "name" == key {
-        return Some(Form::Id);
+        return Some(Form::Atom(Atom::Id));
     }
     None
 }
@@ -95,10 +96,10 @@ fn link_member(key: &str) -> Option<Form>
     ensures { option_map form_of result ≡ is.member_form is.a_link None key.now }
 {
     if "from" == key {
-        return Some(Form::Id);
+        return Some(Form::Atom(Atom::Id));
     }
     if "socket" == key {
-        return Some(Form::Id);
+        return Some(Form::Atom(Atom::Id));
     }
     None
 }
@@ -108,7 +109,7 @@ fn node_member(row: Option<&'static Row>, key: &str) -> Option<Form>
         ≡ is.member_form is.a_node (option_map (λ row. row_of row.now) row.entry) key.now }
 {
     if "id" == key {
-        return Some(Form::Id);
+        return Some(Form::Atom(Atom::Id));
     }
     if "in" == key {
         return match row {
@@ -117,7 +118,7 @@ fn node_member(row: Option<&'static Row>, key: &str) -> Option<Form>
         };
     }
     if "kind" == key {
-        return Some(Form::NodeKind);
+        return Some(Form::Atom(Atom::NodeKind));
     }
     if "set" == key {
         return match row {
@@ -128,8 +129,8 @@ fn node_member(row: Option<&'static Row>, key: &str) -> Option<Form>
     None
 }
 
-/// What must stand under a key of an object; `None` for a key that it doesn't have. `row` is that of
-/// a node.
+/// Returns what must stand under a key of an object, and `None` for a key that the object doesn't have.
+/// `row` is the row of a node's kind.
 pub(crate) fn member_form(form: Form, row: Option<&'static Row>, key: &str) -> Option<Form>
     ensures { option_map form_of result
         ≡ is.member_form (form_of form) (option_map (λ row. row_of row.now) row.entry) key.now }
@@ -145,16 +146,7 @@ pub(crate) fn member_form(form: Form, row: Option<&'static Row>, key: &str) -> O
         Form::Outputs => Some(Form::Input),
         Form::InputsOf(_) => Some(Form::Input),
         Form::AnyInputs => Some(Form::Input),
-        Form::Format => None,
-        Form::Id => None,
-        Form::NodeKind => None,
-        Form::Truth => None,
-        Form::ColumnName => None,
-        Form::FileName => None,
-        Form::KindIn(_) => None,
-        Form::WordOf(_) => None,
-        Form::PlaceIn(_) => None,
-        Form::ConstantAs(_) => None,
+        Form::Atom(_) => None,
         Form::Groups => None,
         Form::Sockets => None,
         Form::Nodes => None,
@@ -201,7 +193,7 @@ fn is_node_complete(row: Option<&'static Row>, value: &Value) -> bool
     }
 }
 
-/// Whether each key that must be there is.
+/// Reports whether each key that must be there is.
 fn is_complete(form: Form, row: Option<&'static Row>, value: &Value) -> bool
     ensures { result ≡ is.are_there (is.keys_of (form_of form) (option_map (λ row. row_of row.now) row.entry)) (view value.now) }
 {
@@ -220,7 +212,7 @@ fn is_complete(form: Form, row: Option<&'static Row>, value: &Value) -> bool
     }
 }
 
-/// Whether no key is unknown.
+/// Reports whether no key is unknown.
 fn is_known(form: Form, row: Option<&'static Row>, members: &Map<String, Value>) -> bool
     ensures { result ≡ is.all_keys
         (λ k. is_some (is.member_form (form_of form) (option_map (λ row. row_of row.now) row.entry) k))
@@ -234,7 +226,7 @@ fn is_known(form: Form, row: Option<&'static Row>, members: &Map<String, Value>)
     true
 }
 
-/// Whether the value is an object with just the keys of the form.
+/// Reports whether the value is an object with just the keys of the form.
 pub(crate) fn has_keys(form: Form, row: Option<&'static Row>, value: &Value) -> bool
     ensures { result ≡ is.has_keys (form_of form) (option_map (λ row. row_of row.now) row.entry) (view value.now) }
 {

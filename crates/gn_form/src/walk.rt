@@ -18,7 +18,7 @@ use serde_json::{Map, Value};
 use std::alloc::Global;
 use std::collections::VecDeque;
 
-/// What the elements of an array must be.
+/// Returns what the elements of an array must be.
 fn item_form(form: Form, items: &[Value]) -> Option<Form>
     ensures { option_map form_of result ≡ is.item_form (form_of form) (items_view items.now) }
 {
@@ -93,8 +93,11 @@ fn first_member(
     Ok(None)
 }
 
-/// The first pointer of a tree where what stands there is not of its form: an object before its
-/// members, arrays by index, keys by their bytes. `None` where all is of its form.
+/// Returns the first pointer of a tree at which what stands there is not of its form, and `None` where
+/// all is of its form. An object stands before its members, elements go by index, keys by their bytes.
+///
+/// # Errors
+/// [`Memory`] where the allocator gives no more.
 pub fn first_misfit(alloc: Global, tree: &Value) -> Result<Option<VecDeque<Step>>, Memory>
     ensures first { InOrder (view tree.now) →
         IfOk result (λ found. IsFirst (is.BreaksForm (view tree.now)) (option_map pointer_of found)) }

@@ -21,7 +21,8 @@ use Rattle.gn_kinds.specs.Row.{Text, KindRow, has_input}
 use Rattle.gn_kinds.specs.Table.{row_of_kind}
 use Rattle.gn_kinds.specs.Text.{is_id, is_column_name, is_file_name, is_word}
 use Rattle.gn_pointers.specs.Pointers.{index, key}
-use Rattle.gn_form.specs.Constant.{constant_as, three_numbers, number_in, int_of}
+use Rattle.gn_atom.specs.Constant.{constant_as, three_numbers, number_in, int_of}
+use Rattle.gn_atom.specs.Atom as atom
 use Rattle.gn_form.specs.Form as form
 use Rattle.gn_form.specs.Form.{Form, Key, needs, may_have, named, all_keys, is_known, are_links, keys_of, node_keys, setting_key, row_in_node, BreaksForm}
 use Rattle.gn_form.specs.Walk.{if_asked, first_in, first_item, first_member}
@@ -50,14 +51,14 @@ all_five a b c d x e f g h i = rw (e, f, g, h, i) refl
 
 -- ---- ids, links and inputs
 
-id_fits : (k : Text) (d : Data) → IsThere k d → IsCleanUnder form.an_id k d → is_id (text_at k d) ≡ true
-id_fits k d t c = (good_under is_id k d t (λ e m. fit form.an_id e (c e m))).1
+id_fits : (k : Text) (d : Data) → IsThere k d → IsCleanUnder (form.an_atom atom.an_id) k d → is_id (text_at k d) ≡ true
+id_fits k d t c = (good_under is_id k d t (λ e m. fit (form.an_atom atom.an_id) e (c e m))).1
 
 -- the id under a key that must be there
-id_at : (keys : List Key) (ms : Members) (k : Text) → HasKeys keys ms → named keys k ≡ Some (needs k form.an_id) → is_id (text_at k (object ms)) ≡ true
-id_at keys ms k h n = id_fits k (object ms) (there_in keys ms k (needs k form.an_id) h n refl) (clean_under keys ms k (needs k form.an_id) h n)
+id_at : (keys : List Key) (ms : Members) (k : Text) → HasKeys keys ms → named keys k ≡ Some (needs k (form.an_atom atom.an_id)) → is_id (text_at k (object ms)) ≡ true
+id_at keys ms k h n = id_fits k (object ms) (there_in keys ms k (needs k (form.an_atom atom.an_id)) h n refl) (clean_under keys ms k (needs k (form.an_atom atom.an_id)) h n)
 
-link_of_fits : (keys : List Key) (ms : Members) → HasKeys keys ms → named keys (codes "from") ≡ Some (needs (codes "from") form.an_id) → named keys (codes "socket") ≡ Some (needs (codes "socket") form.an_id)
+link_of_fits : (keys : List Key) (ms : Members) → HasKeys keys ms → named keys (codes "from") ≡ Some (needs (codes "from") (form.an_atom atom.an_id)) → named keys (codes "socket") ≡ Some (needs (codes "socket") (form.an_atom atom.an_id))
     → link_fits (link_in (object ms)) ≡ true
 link_of_fits keys ms h from socket =
     let d = object ms in
@@ -185,14 +186,14 @@ place_has_name : (places : List Place) (name : Text) (p : Place) → place_named
 place_has_name [] name p e = absurd (cc)
 place_has_name (x ∷ xs) name p e = found_again place_name name (bytes_eq (place_name x) name) x p (place_named xs name) refl (place_has_name xs name p) e
 
-kind_at_fits : (kinds : List SocketKind) (k : Text) (d : Data) → IsThere k d → IsCleanUnder (form.a_kind_in kinds) k d → is_some (kind_named kinds (kind_name (kind_at kinds k d))) ≡ true
+kind_at_fits : (kinds : List SocketKind) (k : Text) (d : Data) → IsThere k d → IsCleanUnder (form.an_atom (atom.a_kind_in kinds)) k d → is_some (kind_named kinds (kind_name (kind_at kinds k d))) ≡ true
 kind_at_fits kinds k d t c =
-    let good = (good_under (λ n. is_some (kind_named kinds n)) k d t (λ e m. fit (form.a_kind_in kinds) e (c e m))).1 in
+    let good = (good_under (λ n. is_some (kind_named kinds n)) k d t (λ e m. fit (form.an_atom (atom.a_kind_in kinds)) e (c e m))).1 in
     ap (λ n. is_some (kind_named kinds n)) (kind_has_name kinds (text_at k d) (kind_at kinds k d) (some_or (kind_named kinds (text_at k d)) Truth good)) ∙ good
 
-place_at_fits : (places : List Place) (k : Text) (d : Data) → IsThere k d → IsCleanUnder (form.a_place_in places) k d → is_some (place_named places (place_name (place_at places k d))) ≡ true
+place_at_fits : (places : List Place) (k : Text) (d : Data) → IsThere k d → IsCleanUnder (form.an_atom (atom.a_place_in places)) k d → is_some (place_named places (place_name (place_at places k d))) ≡ true
 place_at_fits places k d t c =
-    let good = (good_under (λ n. is_some (place_named places n)) k d t (λ e m. fit (form.a_place_in places) e (c e m))).1 in
+    let good = (good_under (λ n. is_some (place_named places n)) k d t (λ e m. fit (form.an_atom (atom.a_place_in places)) e (c e m))).1 in
     ap (λ n. is_some (place_named places n)) (place_has_name places (text_at k d) (place_at places k d) (some_or (place_named places (text_at k d)) Point good)) ∙ good
 
 -- each constant of a kind that is found is of that kind
@@ -247,8 +248,8 @@ value_found_fits : (kind : ValueKind) (found : Option Data) → is_some found �
 value_found_fits kind None t f = absurd (true≢false (sym t))
 value_found_fits kind (Some d) t f = one_of_kind kind (constant_as kind d) (f d refl) (constants_are kind d)
 
-value_at_fits : (kind : ValueKind) (k : Text) (d : Data) → IsThere k d → IsCleanUnder (form.a_constant_as kind) k d → is_of_kind kind (value_at kind k d) ≡ true
-value_at_fits kind k d t c = value_found_fits kind (get k d) t (λ e m. fit (form.a_constant_as kind) e (c e m))
+value_at_fits : (kind : ValueKind) (k : Text) (d : Data) → IsThere k d → IsCleanUnder (form.an_atom (atom.a_constant_as kind)) k d → is_of_kind kind (value_at kind k d) ≡ true
+value_at_fits kind k d t c = value_found_fits kind (get k d) t (λ e m. fit (form.an_atom (atom.a_constant_as kind)) e (c e m))
 
 -- ---- settings
 
@@ -258,14 +259,14 @@ setting_in_fits : (s : row.Setting) (ss : List row.Setting) (d : Data) (rest : S
 setting_in_fits (row.type_in kinds) ss d rest t c z h =
     and_from (is_some (kind_named kinds (kind_name (kind_at kinds (codes "type") d)))) (settings_fit (kept ss) rest) (kind_at_fits kinds (codes "type") d (t refl) c) h
 setting_in_fits (row.op_in names) ss d rest t c z h =
-    and_from (is_word names (text_at (codes "op") d)) (settings_fit (kept ss) rest) (good_under (is_word names) (codes "op") d (t refl) (λ e m. fit (form.a_word_of names) e (c e m))).1 h
+    and_from (is_word names (text_at (codes "op") d)) (settings_fit (kept ss) rest) (good_under (is_word names) (codes "op") d (t refl) (λ e m. fit (form.an_atom (atom.a_word_of names)) e (c e m))).1 h
 setting_in_fits (row.place_in places) ss d rest t c z h =
     and_from (is_some (place_named places (place_name (place_at places (codes "place") d)))) (settings_fit (kept ss) rest) (place_at_fits places (codes "place") d (t refl) c) h
 setting_in_fits row.a_clamp ss d rest t c z h = h
 setting_in_fits row.a_name ss d rest t c z h =
-    and_from (is_column_name (text_at (codes "name") d)) (settings_fit (kept ss) rest) (good_under is_column_name (codes "name") d (t refl) (λ e m. fit form.a_column_name e (c e m))).1 h
+    and_from (is_column_name (text_at (codes "name") d)) (settings_fit (kept ss) rest) (good_under is_column_name (codes "name") d (t refl) (λ e m. fit (form.an_atom atom.a_column_name) e (c e m))).1 h
 setting_in_fits row.a_file ss d rest t c z h =
-    and_from (is_file_name (text_at (codes "file") d)) (settings_fit (kept ss) rest) (good_under is_file_name (codes "file") d (t refl) (λ e m. fit form.a_file_name e (c e m))).1 h
+    and_from (is_file_name (text_at (codes "file") d)) (settings_fit (kept ss) rest) (good_under is_file_name (codes "file") d (t refl) (λ e m. fit (form.an_atom atom.a_file_name) e (c e m))).1 h
 setting_in_fits (row.value_of kind) ss d rest t c z h =
     and_from (is_of_kind kind (value_at kind (codes "value") d)) (settings_fit (kept ss) rest) (value_at_fits kind (codes "value") d (t refl) c) h
 setting_in_fits row.group_name ss d rest t c z h = and_from (is_id (text_at (codes "group") d)) (settings_fit (kept ss) rest) (id_fits (codes "group") d (t refl) c) h
@@ -436,10 +437,10 @@ one_fits : (o : Option ℕ) → option_map_or (λ n. n == 1) o false ≡ true �
 one_fits None e = absurd (true≢false (sym e))
 one_fits (Some n) e = subst (λ m. (in_32_bits m == 1) ≡ true) (sym (eqb-true n 1 e)) refl
 
-format_found_fits : (found : Option Data) → is_some found ≡ true → ((d : Data) → found ≡ Some d → IsClean form.the_format d)
+format_found_fits : (found : Option Data) → is_some found ≡ true → ((d : Data) → found ≡ Some d → IsClean (form.an_atom atom.the_format) d)
     → (option_map_or in_32_bits (option_and_then as_u64 (option_and_then as_number found)) 0 == 1) ≡ true
 format_found_fits None t f = absurd (true≢false (sym t))
-format_found_fits (Some d) t f = one_fits (option_and_then as_u64 (as_number d)) (fit form.the_format d (f d refl))
+format_found_fits (Some d) t f = one_fits (option_and_then as_u64 (as_number d)) (fit (form.an_atom atom.the_format) d (f d refl))
 
 output_found_fits : (found : Option Data) → ((d : Data) → found ≡ Some d → IsClean form.an_input d) → option_map_or input_fits (option_map input_in found) true ≡ true
 output_found_fits None f = refl
@@ -456,7 +457,7 @@ tree_in_fits (object ms) e =
     let r = row_in_node d in
     let keys = keys_of form.a_tree r in
     let h = has_keys_if (is_known form.a_tree r d) keys ms e in
-    let format = needs (codes "format") form.the_format in
+    let format = needs (codes "format") (form.an_atom atom.the_format) in
     all_four (format_in d == 1) (list_all group_fits (tree_in d).groups) (nodes_fit (nodes_of (nodes_among ms))) (option_map_or input_fits (tree_in d).output true)
     (format_found_fits (get (codes "format") d) (there_in keys ms (codes "format") format h refl refl) (clean_under keys ms (codes "format") format h refl))
     (groups_found_fit (get (codes "groups") d) (clean_under keys ms (codes "groups") (may_have (codes "groups") form.groups) h refl))

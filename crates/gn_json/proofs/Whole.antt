@@ -15,10 +15,12 @@ use Rattle.gn_kinds.specs.Row as row
 use Rattle.gn_kinds.specs.Row.{Text, KindRow}
 use Rattle.gn_kinds.specs.Table.{any_kind, row_of_kind}
 use Rattle.gn_pointers.specs.Pointers.{index, key, IsFirst}
-use Rattle.gn_form.specs.Constant.{constant_as, constant_in, three_numbers}
+use Rattle.gn_atom.specs.Constant.{constant_as, constant_in, three_numbers}
 use Rattle.gn_kinds.specs.Text.{is_id, is_column_name, is_file_name, is_word}
+use Rattle.gn_atom.specs.Atom as atom
+use Rattle.gn_atom.specs.Atom.{is_text}
 use Rattle.gn_form.specs.Form as form
-use Rattle.gn_form.specs.Form.{Form, Key, needs, may_have, named, fits, is_text, is_known, are_there, are_links, keys_of, node_keys, member_form, setting_key, row_in_node, BreaksForm}
+use Rattle.gn_form.specs.Form.{Form, Key, needs, may_have, named, fits, is_known, are_there, are_links, keys_of, node_keys, member_form, setting_key, row_in_node, BreaksForm}
 use Rattle.gn_form.specs.Order.{InOrder}
 use Rattle.gn_form.proofs.Exact.{tree_is_first}
 use Rattle.gn_form.specs.Walk.{if_asked, first_in, first_item, first_member}
@@ -55,17 +57,17 @@ good_text_of good (Some d) t f = good_text good (as_str d) (f d refl)
 pub good_under : (good : Text → Bool) (k : Text) (d : Data) → IsThere k d → ((e : Data) → get k d ≡ Some e → is_text good e ≡ true) → (text_under k d ≡ Some (text_at k d)) × (good (text_at k d) ≡ true)
 good_under good k d t f = good_text_of good (get k d) t f
 
-id_is : (k : Text) (d : Data) → IsThere k d → IsCleanUnder form.an_id k d → text_under k d ≡ Some (text_at k d)
-id_is k d t c = (good_under is_id k d t (λ e m. fit form.an_id e (c e m))).0
+id_is : (k : Text) (d : Data) → IsThere k d → IsCleanUnder (form.an_atom atom.an_id) k d → text_under k d ≡ Some (text_at k d)
+id_is k d t c = (good_under is_id k d t (λ e m. fit (form.an_atom atom.an_id) e (c e m))).0
 
-kind_is : (kinds : List SocketKind) (k : Text) (d : Data) → IsThere k d → IsCleanUnder (form.a_kind_in kinds) k d → kind_under kinds k d ≡ Some (kind_at kinds k d)
+kind_is : (kinds : List SocketKind) (k : Text) (d : Data) → IsThere k d → IsCleanUnder (form.an_atom (atom.a_kind_in kinds)) k d → kind_under kinds k d ≡ Some (kind_at kinds k d)
 kind_is kinds k d t c =
-    let good = good_under (λ n. is_some (kind_named kinds n)) k d t (λ e m. fit (form.a_kind_in kinds) e (c e m)) in
+    let good = good_under (λ n. is_some (kind_named kinds n)) k d t (λ e m. fit (form.an_atom (atom.a_kind_in kinds)) e (c e m)) in
     then_is (kind_named kinds) (text_under k d) (text_at k d) (Some (kind_at kinds k d)) good.0 (some_or (kind_named kinds (text_at k d)) Truth good.1)
 
-place_is : (places : List Place) (k : Text) (d : Data) → IsThere k d → IsCleanUnder (form.a_place_in places) k d → place_under places k d ≡ Some (place_at places k d)
+place_is : (places : List Place) (k : Text) (d : Data) → IsThere k d → IsCleanUnder (form.an_atom (atom.a_place_in places)) k d → place_under places k d ≡ Some (place_at places k d)
 place_is places k d t c =
-    let good = good_under (λ n. is_some (place_named places n)) k d t (λ e m. fit (form.a_place_in places) e (c e m)) in
+    let good = good_under (λ n. is_some (place_named places n)) k d t (λ e m. fit (form.an_atom (atom.a_place_in places)) e (c e m)) in
     then_is (place_named places) (text_under k d) (text_at k d) (Some (place_at places k d)) good.0 (some_or (place_named places (text_at k d)) Point good.1)
 
 -- what a test says that something can be taken of, under a key
@@ -75,13 +77,13 @@ taken_of take other (Some d) t f = some_or (take d) other (f d refl)
 
 -- ---- links and inputs
 
-link_of : (keys : List Key) (ms : Members) → HasKeys keys ms → named keys (codes "from") ≡ Some (needs (codes "from") form.an_id) → named keys (codes "socket") ≡ Some (needs (codes "socket") form.an_id)
+link_of : (keys : List Key) (ms : Members) → HasKeys keys ms → named keys (codes "from") ≡ Some (needs (codes "from") (form.an_atom atom.an_id)) → named keys (codes "socket") ≡ Some (needs (codes "socket") (form.an_atom atom.an_id))
     → link_from (object ms) ≡ Some (link_in (object ms))
 link_of keys ms h from socket =
     let d = object ms in
     both_are exact.a_link (text_under (codes "from") d) (text_under (codes "socket") d) (text_at (codes "from") d) (text_at (codes "socket") d)
-    (id_is (codes "from") d (there_in keys ms (codes "from") (needs (codes "from") form.an_id) h from refl) (clean_under keys ms (codes "from") (needs (codes "from") form.an_id) h from))
-    (id_is (codes "socket") d (there_in keys ms (codes "socket") (needs (codes "socket") form.an_id) h socket refl) (clean_under keys ms (codes "socket") (needs (codes "socket") form.an_id) h socket))
+    (id_is (codes "from") d (there_in keys ms (codes "from") (needs (codes "from") (form.an_atom atom.an_id)) h from refl) (clean_under keys ms (codes "from") (needs (codes "from") (form.an_atom atom.an_id)) h from))
+    (id_is (codes "socket") d (there_in keys ms (codes "socket") (needs (codes "socket") (form.an_atom atom.an_id)) h socket refl) (clean_under keys ms (codes "socket") (needs (codes "socket") (form.an_atom atom.an_id)) h socket))
 
 link_is : (d : Data) → IsClean form.a_link d → link_from d ≡ Some (link_in d)
 link_is null e = absurd (cc)
@@ -153,13 +155,13 @@ inputs_of_under row k d c = inputs_found (get k d) (λ e m. inputs_of_are row e 
 
 -- ---- sockets
 
-socket_of : (keys : List Key) (ms : Members) → HasKeys keys ms → named keys (codes "name") ≡ Some (needs (codes "name") form.an_id)
-    → named keys (codes "kind") ≡ Some (needs (codes "kind") (form.a_kind_in any_kind)) → socket_from (object ms) ≡ Some (socket_in (object ms))
+socket_of : (keys : List Key) (ms : Members) → HasKeys keys ms → named keys (codes "name") ≡ Some (needs (codes "name") (form.an_atom atom.an_id))
+    → named keys (codes "kind") ≡ Some (needs (codes "kind") (form.an_atom (atom.a_kind_in any_kind))) → socket_from (object ms) ≡ Some (socket_in (object ms))
 socket_of keys ms h name kind =
     let d = object ms in
     both_are exact.a_socket (text_under (codes "name") d) (kind_under any_kind (codes "kind") d) (text_at (codes "name") d) (kind_at any_kind (codes "kind") d)
-    (id_is (codes "name") d (there_in keys ms (codes "name") (needs (codes "name") form.an_id) h name refl) (clean_under keys ms (codes "name") (needs (codes "name") form.an_id) h name))
-    (kind_is any_kind (codes "kind") d (there_in keys ms (codes "kind") (needs (codes "kind") (form.a_kind_in any_kind)) h kind refl) (clean_under keys ms (codes "kind") (needs (codes "kind") (form.a_kind_in any_kind)) h kind))
+    (id_is (codes "name") d (there_in keys ms (codes "name") (needs (codes "name") (form.an_atom atom.an_id)) h name refl) (clean_under keys ms (codes "name") (needs (codes "name") (form.an_atom atom.an_id)) h name))
+    (kind_is any_kind (codes "kind") d (there_in keys ms (codes "kind") (needs (codes "kind") (form.an_atom (atom.a_kind_in any_kind))) h kind refl) (clean_under keys ms (codes "kind") (needs (codes "kind") (form.an_atom (atom.a_kind_in any_kind))) h kind))
 
 socket_is : (d : Data) → IsClean form.a_socket d → socket_from d ≡ Some (socket_in d)
 socket_is null e = absurd (cc)
@@ -200,16 +202,16 @@ setting_is : (s : row.Setting) (d : Data) (rest : Settings) → (is_needed s ≡
     → with_setting s d rest ≡ Some (then_setting (setting_in s d) rest)
 setting_is (row.type_in kinds) d rest t c = ap (option_map (λ k. and_setting (of_kind k) rest)) (kind_is kinds (codes "type") d (t refl) c)
 setting_is (row.op_in names) d rest t c =
-    ap (option_map (λ n. and_setting (op n) rest)) (good_under (is_word names) (codes "op") d (t refl) (λ e m. fit (form.a_word_of names) e (c e m))).0
+    ap (option_map (λ n. and_setting (op n) rest)) (good_under (is_word names) (codes "op") d (t refl) (λ e m. fit (form.an_atom (atom.a_word_of names)) e (c e m))).0
 setting_is (row.place_in places) d rest t c = ap (option_map (λ p. and_setting (place p) rest)) (place_is places (codes "place") d (t refl) c)
 setting_is row.a_clamp d rest t c =
-    ap (option_map (λ on. and_setting (clamp on) rest)) (taken_of as_bool false (get (codes "clamp") d) (t refl) (λ e m. fit form.a_truth e (c e m)))
+    ap (option_map (λ on. and_setting (clamp on) rest)) (taken_of as_bool false (get (codes "clamp") d) (t refl) (λ e m. fit (form.an_atom atom.a_truth) e (c e m)))
 setting_is row.a_name d rest t c =
-    ap (option_map (λ n. and_setting (a_name n) rest)) (good_under is_column_name (codes "name") d (t refl) (λ e m. fit form.a_column_name e (c e m))).0
+    ap (option_map (λ n. and_setting (a_name n) rest)) (good_under is_column_name (codes "name") d (t refl) (λ e m. fit (form.an_atom atom.a_column_name) e (c e m))).0
 setting_is row.a_file d rest t c =
-    ap (option_map (λ n. and_setting (file n) rest)) (good_under is_file_name (codes "file") d (t refl) (λ e m. fit form.a_file_name e (c e m))).0
+    ap (option_map (λ n. and_setting (file n) rest)) (good_under is_file_name (codes "file") d (t refl) (λ e m. fit (form.an_atom atom.a_file_name) e (c e m))).0
 setting_is (row.value_of kind) d rest t c =
-    ap (option_map (λ v. and_setting (value v) rest)) (taken_of (constant_as kind) (truth false) (get (codes "value") d) (t refl) (λ e m. fit (form.a_constant_as kind) e (c e m)))
+    ap (option_map (λ v. and_setting (value v) rest)) (taken_of (constant_as kind) (truth false) (get (codes "value") d) (t refl) (λ e m. fit (form.an_atom (atom.a_constant_as kind)) e (c e m)))
 setting_is row.group_name d rest t c = ap (option_map (λ n. and_setting (of_group n) rest)) (id_is (codes "group") d (t refl) c)
 setting_is row.zone_items d rest t c = refl
 setting_is row.zone_nodes d rest t c = refl
@@ -266,11 +268,11 @@ node_are : (id kind : Option Text) (settings : Option Settings) (inputs : Option
     → exact.a_node id kind settings inputs ≡ Some (node i k s xs)
 node_are id kind settings inputs i k s xs a b c d = rw (a, b, c, d)
 
-pub kind_in_node : (keys : List Key) (ms : Members) → HasKeys keys ms → named keys (codes "kind") ≡ Some (needs (codes "kind") form.a_node_kind)
+pub kind_in_node : (keys : List Key) (ms : Members) → HasKeys keys ms → named keys (codes "kind") ≡ Some (needs (codes "kind") (form.an_atom atom.a_node_kind))
     → (text_under (codes "kind") (object ms) ≡ Some (text_at (codes "kind") (object ms))) × (is_some (row_of_kind (text_at (codes "kind") (object ms))) ≡ true)
 kind_in_node keys ms h n =
-    let it = needs (codes "kind") form.a_node_kind in
-    good_under (λ k. is_some (row_of_kind k)) (codes "kind") (object ms) (there_in keys ms (codes "kind") it h n refl) (λ e m. fit form.a_node_kind e (clean_under keys ms (codes "kind") it h n e m))
+    let it = needs (codes "kind") (form.an_atom atom.a_node_kind) in
+    good_under (λ k. is_some (row_of_kind k)) (codes "kind") (object ms) (there_in keys ms (codes "kind") it h n refl) (λ e m. fit (form.an_atom atom.a_node_kind) e (clean_under keys ms (codes "kind") it h n e m))
 
 node_with : (ms : Members) (r : Option KindRow) → row_in_node (object ms) ≡ r → HasKeys (node_keys r) ms
     → ((row : KindRow) → AreWhole row.settings → HasKeys (node_keys (Some row)) ms → settings_found row.settings ms ≡ Some (settings_among row.settings ms)) → node_from (object ms) ≡ Some (node_in (object ms))
@@ -281,7 +283,7 @@ node_with ms (Some row) e h f =
     let d = object ms in
     let keys = node_keys (Some row) in
     let kind = kind_in_node keys ms h refl in
-    let id = needs (codes "id") form.an_id in
+    let id = needs (codes "id") (form.an_atom atom.an_id) in
     let inputs = may_have (codes "in") (form.inputs_of row) in
     let is_row : row_of_kind (text_at (codes "kind") d) ≡ Some row = ap (option_and_then row_of_kind) (sym kind.0) ∙ e in
     let settings : option_and_then (λ r. settings_found r.settings ms) (row_in_node d) ≡ Some (settings_among (settings_of_kind d) ms) =
@@ -378,7 +380,7 @@ group_is (object ms) e =
     let r = row_in_node d in
     let keys = keys_of form.a_group r in
     let h = has_keys_if (is_known form.a_group r d) keys ms e in
-    let name = needs (codes "name") form.an_id in
+    let name = needs (codes "name") (form.an_atom atom.an_id) in
     let output = may_have (codes "output") form.outputs in
     group_are (text_under (codes "name") d) (sockets_under (codes "inputs") d) (sockets_under (codes "outputs") d) (nodes_found ms) (inputs_under (codes "output") d)
     (text_at (codes "name") d) (sockets_at (codes "inputs") d) (sockets_at (codes "outputs") d) (nodes_among ms) (inputs_at (codes "output") d)
@@ -411,10 +413,10 @@ one_is : (o : Option ℕ) → option_map_or (λ n. n == 1) o false ≡ true → 
 one_is None e = absurd (true≢false (sym e))
 one_is (Some n) e = subst (λ m. ◌≡◌ {A = Option ℕ} (Some m) (Some (in_32_bits m))) (sym (eqb-true n 1 e)) refl
 
-format_found : (found : Option Data) → is_some found ≡ true → ((d : Data) → found ≡ Some d → IsClean form.the_format d)
+format_found : (found : Option Data) → is_some found ≡ true → ((d : Data) → found ≡ Some d → IsClean (form.an_atom atom.the_format) d)
     → option_and_then as_u64 (option_and_then as_number found) ≡ Some (option_map_or in_32_bits (option_and_then as_u64 (option_and_then as_number found)) 0)
 format_found None t f = absurd (true≢false (sym t))
-format_found (Some d) t f = one_is (option_and_then as_u64 (as_number d)) (fit form.the_format d (f d refl))
+format_found (Some d) t f = one_is (option_and_then as_u64 (as_number d)) (fit (form.an_atom atom.the_format) d (f d refl))
 
 output_found : (found : Option Data) → ((d : Data) → found ≡ Some d → IsClean form.an_input d) → option_map_or (λ e. option_map (λ x. Some x) (input_from e)) found (Some None) ≡ Some (option_map input_in found)
 output_found None f = refl
@@ -436,7 +438,7 @@ tree_is (object ms) e =
     let r = row_in_node d in
     let keys = keys_of form.a_tree r in
     let h = has_keys_if (is_known form.a_tree r d) keys ms e in
-    let format = needs (codes "format") form.the_format in
+    let format = needs (codes "format") (form.an_atom atom.the_format) in
     tree_are (format_under d) (groups_under d) (nodes_found ms) (output_under d) (format_in d) (tree_in d).groups (nodes_among ms) (tree_in d).output
     (format_found (get (codes "format") d) (there_in keys ms (codes "format") format h refl refl) (clean_under keys ms (codes "format") format h refl))
     (groups_found (get (codes "groups") d) (clean_under keys ms (codes "groups") (may_have (codes "groups") form.groups) h refl))

@@ -11,7 +11,7 @@ use Rattle.gn_kinds.specs.Names.{kind_named, place_named}
 use Rattle.gn_kinds.specs.Row as row
 use Rattle.gn_kinds.specs.Row.{Text}
 use Rattle.gn_kinds.specs.Table.{any_kind}
-use Rattle.gn_form.specs.Constant.{constant_as, constant_in}
+use Rattle.gn_atom.specs.Constant.{constant_as, constant_in}
 use Rattle.gn_form.specs.Form.{are_links, row_in_node, setting_key}
 use Rattle.gn_tree.specs.Trees.{Link, Input, constant, link, links, Named, Socket, of_kind, op, place, clamp, a_name, file, value, of_group, Node, node, Settings, no_settings, and_setting, and_zone, Group, Tree}
 use Rattle.gn_tree.specs.Seen.{nodes_of}

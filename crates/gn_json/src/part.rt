@@ -1,11 +1,12 @@
 ghost use Rattle.std.specs.Prelude.{◌≡◌, IfOk, map, string_bytes};
 ghost use Rattle.serde_json.specs.View.{view, items_view, members_view};
 ghost use Rattle.serde_json.specs.Data.{array};
-ghost use Rattle.gn_form.specs.Constant as form;
+ghost use Rattle.gn_atom.specs.Constant.{constant_in};
 ghost use Rattle.gn_tree.specs.Seen as seen;
 ghost use Rattle.gn_json.specs.Typed as typed;
 
-use gn_form::{are_links, constant_in};
+use gn_atom::constant_in;
+use gn_form::are_links;
 use gn_kinds::{SocketKind, find_kind, socket_kinds};
 use gn_memory::Memory;
 use gn_tree::{Socket, TreeInput, TreeLink};
@@ -48,7 +49,7 @@ fn links_in(alloc: Global, items: &[Value]) -> Result<Vec<TreeLink>, Memory>
 
 /// A constant, which a value of its form is.
 fn constant_or_false(value: &Value) -> gn_value::Value
-    ensures { result ≡ typed.constant_or_false (form.constant_in (view value.now)) }
+    ensures { result ≡ typed.constant_or_false (constant_in (view value.now)) }
 {
     constant_in(value).unwrap_or(gn_value::Value::Truth(false))
 }

@@ -9,7 +9,7 @@ ghost use Rattle.gn_json.specs.Typed as typed;
 ghost use Rattle.gn_json.specs.Settings.{found_then};
 
 use crate::part::{inputs_at, kind_at, sockets_at, string_at, text_at};
-use gn_form::constant_as;
+use gn_atom::constant_as;
 use gn_kinds::{SettingForm, find_place};
 use gn_memory::Memory;
 use gn_tree::{Node, Setting, Zone};

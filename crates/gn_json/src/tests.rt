@@ -1,7 +1,6 @@
-use crate::{JsonFault, read};
+use crate::read;
 use gn_tree::{Setting, TreeInput};
 use gn_value::{Fx, V3, Value};
-use std::alloc::Global;
 use std::test::Fail;
 
 #[test]
@@ -300,115 +299,6 @@ fn reads_a_node_of_each_kind(rt: HostRuntime) -> Result<(), Fail> {
         };
         assert_eq!(rt; node.settings.len(), settings, "{text}");
         assert_eq!(rt; node.inputs.len(), inputs, "{text}");
-    }
-    Ok(())
-}
-
-/// Texts that are no trees, and the pointer; none where the text is no JSON.
-static FAULTS: [(&str, Option<&str>); 9] = [
-    ("", None),
-    ("{\"format\":1", None),
-    ("[1e400]", None),
-    ("{\"format\":1,\"nodes\":[]} []", None),
-    ("[]", Some("/")),
-    ("{\"format\":0,\"nodes\":[]}", Some("/format")),
-    (
-        "{\"nodes\":[{\"kind\":\"id\",\"id\":\"b/\"}],\"format\":1}",
-        Some("/nodes/0/id"),
-    ),
-    (
-        "{\"nodes\":[{\"kind\":\"group\",\"id\":\"b\",\"in\":{\"a/~\":null},\"set\":{\"group\":\"g\"}}],\"format\":1}",
-        Some("/nodes/0/in/a~1~0"),
-    ),
-    (
-        "{\"format\":1,\"nodes\":[{\"id\":\"a\",\"kind\":\"float\",\"set\":{\"value\":0.5}}]}",
-        Some("/nodes/0/set/value"),
-    ),
-];
-
-#[test]
-fn tells_why_a_text_is_no_tree(rt: HostRuntime) -> Result<(), Fail> {
-    for (text, wanted) in FAULTS {
-        match read(rt.alloc(), text.as_bytes()) {
-            Err(JsonFault::Text) => assert!(rt; wanted.is_none(), "{text}"),
-            Err(JsonFault::Form { place }) => {
-                assert!(rt; wanted.is_some_and(|at| place.as_str() == at), "{text}");
-            }
-            _ => return Err(Fail::new("a fault")),
-        }
-    }
-    Ok(())
-}
-
-/// The text of that many arrays, each in the one before.
-fn nested(alloc: Global, depth: u64) -> Result<String, Fail> {
-    let mut text = String::new(alloc);
-    for _ in 0..depth {
-        text.push('[')?;
-    }
-    for _ in 0..depth {
-        text.push(']')?;
-    }
-    Ok(text)
-}
-
-#[test]
-fn refuses_128_nested_arrays(rt: HostRuntime) -> Result<(), Fail> {
-    let text = nested(rt.alloc(), 127)?;
-    assert!(rt;
-        matches!(
-            read(rt.alloc(), text.as_bytes()),
-            Err(JsonFault::Form { .. })
-        )
-    );
-    let deeper = nested(rt.alloc(), 128)?;
-    assert!(rt; matches!(read(rt.alloc(), deeper.as_bytes()), Err(JsonFault::Text)));
-    Ok(())
-}
-
-#[test]
-fn refuses_bytes_that_are_no_text(rt: HostRuntime) {
-    let bytes = [b'"', 0xff, b'"'];
-    assert!(rt; matches!(read(rt.alloc(), &bytes), Err(JsonFault::Text)));
-}
-
-/// Inputs, and what is read of them; raw numbers are 2^32 for each whole.
-static CONSTANTS: [(&str, Value); 10] = [
-    ("true", Value::Truth(true)),
-    ("false", Value::Truth(false)),
-    ("-7", Value::Int(-7)),
-    ("2147483647", Value::Int(2_147_483_647)),
-    ("-2147483648", Value::Int(-2_147_483_648)),
-    (r#""0.5""#, Value::Fixed(Fx(2_147_483_648))),
-    (r#""-3""#, Value::Fixed(Fx(-12_884_901_888))),
-    (r#""1e-2""#, Value::Fixed(Fx(42_949_673))),
-    (
-        r#"["1","-2","0.25"]"#,
-        Value::Vector(V3 {
-            x: Fx(4_294_967_296),
-            y: Fx(-8_589_934_592),
-            z: Fx(1_073_741_824),
-        }),
-    ),
-    // Of a key that is written twice the last value counts.
-    (r#"1,"x":2"#, Value::Int(2)),
-];
-
-#[test]
-fn reads_constants_of_each_shape(rt: HostRuntime) -> Result<(), Fail> {
-    let alloc = rt.alloc();
-    for (input, wanted) in CONSTANTS {
-        let text = format!(in alloc;
-            "{{\"format\":1,\"nodes\":[{{\"id\":\"a\",\"kind\":\"group\",\"set\":{{\"group\":\"g\"}},\"in\":{{\"x\":{input}}}}}]}}"
-        )?;
-        let tree = read(alloc, text.as_bytes())?;
-        let [node] = tree.nodes.as_slice() else {
-            return Err(Fail::new("one node"));
-        };
-        let [(_, TreeInput::Constant { value })] = node.inputs.as_slice() else {
-            return Err(Fail::new("a constant"));
-        };
-        assert!(rt; *value == wanted, "{text}");
     }
     Ok(())
 }

@@ -158,7 +158,7 @@ fn names_the_rule_that_nodes_break(rt: HostRuntime) -> Result<(), Fail> {
 }
 
 /// Whole trees, and what is said of them.
-static TREES: [(&str, &str); 21] = [
+static TREES: [(&str, &str); 29] = [
     (
         r#"{"format":1,"groups":[{"name":"f","inputs":[],"outputs":[],"nodes":[]},{"name":"g","inputs":[],"outputs":[],"nodes":[{"id":"a","kind":"index"},{"id":"a","kind":"id"}]}],"nodes":[{"id":"a","kind":"index"}]}"#,
         "F2 /groups/1/nodes/1",
@@ -179,7 +179,24 @@ static TREES: [(&str, &str); 21] = [
         r#"{"format":1,"groups":[{"name":"f","inputs":[],"outputs":[],"nodes":[]},{"name":"g","inputs":[],"outputs":[],"nodes":[{"id":"a","kind":"index"},{"id":"z","kind":"repeat","set":{"items":[],"nodes":[{"id":"y","kind":"repeat","set":{"items":[],"nodes":[{"id":"x","kind":"repeat","set":{"items":[],"nodes":[]}}]}}]}}]}],"nodes":[{"id":"a","kind":"index"}]}"#,
         "F6 /groups/1/nodes/1",
     ),
+    ("", "no JSON"),
     (r#"{"format":1"#, "no JSON"),
+    (r#"{"format":1,"nodes":[]} []"#, "no JSON"),
+    ("[1e400]", "no JSON"),
+    ("[]", "F1 /"),
+    (r#"{"format":0,"nodes":[]}"#, "F1 /format"),
+    (
+        r#"{"nodes":[{"kind":"id","id":"b/"}],"format":1}"#,
+        "F1 /nodes/0/id",
+    ),
+    (
+        r#"{"nodes":[{"kind":"group","id":"b","in":{"a/~":null},"set":{"group":"g"}}],"format":1}"#,
+        "F1 /nodes/0/in/a~1~0",
+    ),
+    (
+        r#"{"format":1,"nodes":[{"id":"a","kind":"float","set":{"value":0.5}}]}"#,
+        "F1 /nodes/0/set/value",
+    ),
     (
         r#"{"format":2,"nodes":[{"id":"input","kind":"index"}]}"#,
         "F1 /format",
@@ -245,6 +262,31 @@ fn names_the_rule_that_trees_break(rt: HostRuntime) -> Result<(), Fail> {
         expect(&rt, rt.alloc(), text, wanted)?;
     }
     Ok(())
+}
+
+/// The text of that many arrays, each in the one before.
+fn nested(alloc: Global, depth: u64) -> Result<String, Fail> {
+    let mut text = String::new(alloc);
+    for _ in 0..depth {
+        text.push('[')?;
+    }
+    for _ in 0..depth {
+        text.push(']')?;
+    }
+    Ok(text)
+}
+
+#[test]
+fn refuses_128_nested_arrays(rt: HostRuntime) -> Result<(), Fail> {
+    let alloc = rt.alloc();
+    expect(&rt, alloc, &nested(alloc, 127)?, "F1 /")?;
+    expect(&rt, alloc, &nested(alloc, 128)?, "no JSON")
+}
+
+#[test]
+fn refuses_bytes_that_are_no_text(rt: HostRuntime) {
+    let bytes = [b'"', 0xff, b'"'];
+    assert!(rt; matches!(read_tree(rt.alloc(), &bytes), Err(TreeFault::Text)));
 }
 
 /// A tree of groups `g0` of two nodes, and each further one of two group nodes of the one before, up

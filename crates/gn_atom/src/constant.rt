@@ -1,6 +1,6 @@
 ghost use Rattle.std.specs.Prelude.{◌≡◌, option_map};
 ghost use Rattle.serde_json.specs.View.{view, items_view};
-ghost use Rattle.gn_form.specs.Constant as spec;
+ghost use Rattle.gn_atom.specs.Constant as spec;
 
 use gn_value::{Fx, V3, ValueKind};
 use serde_json::Value;
@@ -11,7 +11,7 @@ fn truth_in(value: &Value) -> Option<gn_value::Value>
     Some(gn_value::Value::Truth(value.as_bool()?))
 }
 
-/// The integer that the value is: a whole number of 32 bits.
+/// Returns the integer that the value is: a whole number of 32 bits.
 fn int_in(value: &Value) -> Option<gn_value::Value>
     ensures { result ≡ spec.int_in (view value.now) }
 {
@@ -22,7 +22,7 @@ fn int_in(value: &Value) -> Option<gn_value::Value>
     None
 }
 
-/// The number that a text is.
+/// Returns the number that a text spells.
 fn number_in(value: &Value) -> Option<Fx>
     ensures { option_map (λ x. x.0) result ≡ spec.number_in (view value.now) }
 {
@@ -39,8 +39,8 @@ fn fixed_in(value: &Value) -> Option<gn_value::Value>
     Some(gn_value::Value::Fixed(number_in(value)?))
 }
 
-/// The vector of an array of three numbers.
-pub(crate) fn three_numbers(items: &[Value]) -> Option<gn_value::Value>
+/// Returns the vector of an array of three numbers.
+fn three_numbers(items: &[Value]) -> Option<gn_value::Value>
     ensures { result ≡ spec.three_numbers (items_view items.now) }
 {
     match items {
@@ -59,7 +59,7 @@ fn vector_in(value: &Value) -> Option<gn_value::Value>
     three_numbers(value.as_array()?)
 }
 
-/// The constant of that kind that the value is.
+/// Returns the constant of a kind that the value is, and `None` for any other value.
 pub fn constant_as(kind: ValueKind, value: &Value) -> Option<gn_value::Value>
     ensures { result ≡ spec.constant_as kind (view value.now) }
 {
@@ -71,8 +71,8 @@ pub fn constant_as(kind: ValueKind, value: &Value) -> Option<gn_value::Value>
     }
 }
 
-/// The constant that the value is: a truth, a whole number of 32 bits, the text of a number, or an
-/// array of three such texts.
+/// Returns the constant that the value is: a truth, a whole number of 32 bits, the text of a number, or
+/// an array of three such texts; `None` for any other value.
 pub fn constant_in(value: &Value) -> Option<gn_value::Value>
     ensures { result ≡ spec.constant_in (view value.now) }
 {

@@ -14,8 +14,8 @@ fn are_id_bytes(bytes: &[u8]) -> bool
     bytes.iter().all(|byte| is_id_byte(*byte))
 }
 
-/// Whether the text is an id: 1 to 32 of `a` to `z`, `0` to `9` and `_`.
-pub(crate) fn is_id(text: &str) -> bool
+/// Reports whether the text is an id: 1 to 32 of `a` to `z`, `0` to `9` and `_`.
+pub fn is_id(text: &str) -> bool
     ensures { result ≡ is.is_id text.now }
 {
     let bytes = text.as_bytes();
@@ -28,7 +28,7 @@ fn are_name_bytes(bytes: &[u8]) -> bool
     bytes.iter().all(|byte| 33 <= *byte && *byte <= 126)
 }
 
-/// Whether the text may name a column: 1 to 64 bytes from `!` to `~`, and not `position`.
+/// Reports whether the text may name a column: 1 to 64 bytes from `!` to `~`, and not `position`.
 pub(crate) fn is_column_name(text: &str) -> bool
     ensures { result ≡ is.is_column_name text.now }
 {
@@ -42,7 +42,7 @@ fn are_printed_bytes(bytes: &[u8]) -> bool
     bytes.iter().all(|byte| 32 <= *byte && *byte != 127)
 }
 
-/// Whether the text may name a file: 1 to 255 bytes without control characters.
+/// Reports whether the text may name a file: 1 to 255 bytes without control characters.
 pub(crate) fn is_file_name(text: &str) -> bool
     ensures { result ≡ is.is_file_name text.now }
 {
@@ -50,7 +50,7 @@ pub(crate) fn is_file_name(text: &str) -> bool
     0 < bytes.len() && bytes.len() <= 255 && are_printed_bytes(bytes)
 }
 
-/// Whether the text is one of these words.
+/// Reports whether the text is one of these words.
 pub(crate) fn is_word(words: &'static [&'static str], text: &str) -> bool
     ensures { result ≡ is.is_word (map (λ w. w.now) words.now) text.now }
 {

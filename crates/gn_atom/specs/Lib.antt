@@ -1,0 +1,3 @@
+pub mod Constant
+pub mod Atom
+pub mod Seen
