@@ -1,1 +1,4 @@
-pub mod Lists
+pub mod Numbers
+pub mod Rising
+pub mod Segments
+pub mod Steps

@@ -30,7 +30,10 @@ pub(crate) fn common(alloc: Global, a: &[Segment], b: &[Segment]) -> Result<Vec<
     let mut both = Vec::new(alloc);
     let mut a_left = a;
     let mut b_left = b;
-    while let ([x, after_x @ ..], [y, after_y @ ..]) = (a_left, b_left) {
+    while let [x, after_x @ ..] = a_left {
+        let [y, after_y @ ..] = b_left else {
+            return Ok(both);
+        };
         append(&mut both, x.start.max(y.start), x.end.min(y.end))?;
         if x.end < y.end {
             a_left = after_x;
