@@ -1,5 +1,5 @@
 ghost use Rattle.std.specs.Prelude.{◌≡◌, ◌^◌, take, drop, IfOk, OnOk};
-ghost use Rattle.gn_mask.specs.Segments.{elements, rest, IsAt, Rises};
+ghost use Rattle.gn_mask.specs.Segments.{elements, rest, start_of, IsAt, Rises};
 
 use crate::segment::{Segment, append};
 use gn_memory::Memory;
@@ -13,7 +13,9 @@ pub(crate) struct Cursor {
 }
 
 /// Where the segment at an index starts, or the last number of 32 bits where there is none.
-fn start_at(segments: &[Segment], index: usize) -> u32 {
+fn start_at(segments: &[Segment], index: usize) -> u32
+    ensures { result ≡ start_of (drop index segments.now) }
+{
     match segments.get(index) {
         Some(segment) => segment.start,
         None => u32::MAX,
@@ -44,7 +46,8 @@ pub(crate) fn take_part(
         if left < width {
             append(&mut part, from, from + left)?;
             from += left;
-            break;
+            *at = Cursor { index, from };
+            return Ok(part);
         }
         append(&mut part, from, end)?;
         left -= width;

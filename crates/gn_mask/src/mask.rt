@@ -6,7 +6,7 @@ ghost use Rattle.gn_mask.specs.Segments.{elements, Rises};
 
 use crate::combine::{common, difference, segments_of};
 use crate::cut::{Cursor, take_part};
-use crate::segment::{Segment, append, start_of};
+use crate::segment::{Segment, append, covers, start_of};
 use gn_memory::Memory;
 use std::alloc::Global;
 use std::marker::Model;
@@ -133,9 +133,7 @@ impl Mask {
     pub fn has(&self, element: u32) -> bool
         ensures { result ≡ is_among self.now element }
     {
-        self.segments
-            .iter()
-            .any(|segment| segment.start <= element && element < segment.end)
+        covers(&self.segments, element)
     }
 
     /// The number at a position of the list, counted from 0, or `None` past the end.

@@ -1,6 +1,6 @@
 ghost use Rattle.std.specs.Prelude.{◌≡◌, ◌+◌, ◌≤◌, ◌++◌, max, OnOk};
 ghost use Rattle.gn_mask.specs.Numbers.{numbers};
-ghost use Rattle.gn_mask.specs.Segments.{elements, start_of, Rises};
+ghost use Rattle.gn_mask.specs.Segments.{covers, elements, start_of, Rises};
 
 use gn_memory::Memory;
 
@@ -19,6 +19,15 @@ pub(crate) fn start_of(segments: &[Segment]) -> u32
         [first, ..] => first.start,
         [] => u32::MAX,
     }
+}
+
+/// Whether a number is in one of the segments.
+pub(crate) fn covers(segments: &[Segment], number: u32) -> bool
+    ensures { result ≡ covers segments.now number }
+{
+    segments
+        .iter()
+        .any(|segment| segment.start <= number && number < segment.end)
 }
 
 /// Takes off the last segment if it ends at a number, and returns where it starts. Otherwise returns
