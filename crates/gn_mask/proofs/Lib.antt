@@ -1,4 +1,5 @@
 pub mod Numbers
+mod Rows
 pub mod Rising
 pub mod Segments
 pub mod Steps

@@ -5,7 +5,8 @@ use Rattle.std.specs.List.{All, slice_get, list_any, flat_map, range_with_len}
 use Rattle.std.proofs.lemmas.List.{append_assoc, take_all, take_more, drop_more}
 use Rattle.std.proofs.lemmas.Option.{slice_get_within, get_or_from_slice_get}
 use Rattle.std.proofs.lemmas.List.Folds.{list_any-append}
-use Rattle.std.proofs.lemmas.List.FromFn.{length-range_with_len}
+use Rattle.std.proofs.lemmas.List.Elements.{All-nil, All-append}
+use Rattle.std.proofs.lemmas.List.FromFn.{length-range_with_len, get_or-range_with_len}
 use Rattle.gn_mask.specs.declared.segment.Segment.{Segment}
 use Rattle.gn_mask.specs.Numbers.{numbers, is_among}
 use Rattle.gn_mask.specs.Segments.{elements, is_inside, covers, Rises, start_of}
@@ -112,3 +113,15 @@ length_at below i ss d r h =
     let all : length (elements (drop i ss)) ≡ length (numbers s.start s.end) + length (elements (drop (i + 1) ss)) = ap length at.0 ∙ length-append (numbers s.start s.end) (elements (drop (i + 1) ss)) in
     let forward = at.1 in
     (omega (arith, here, all, forward), forward)
+
+range_below : (a n below : ℕ) → a + n ≤ below → All (λ m. m < below) (range_with_len a n)
+range_below a n below h k d l =
+    let within : k < n = omega (arith, l, length-range_with_len a n) in
+    let at : get_or (range_with_len a n) k d ≡ a + k = get_or-range_with_len a n k d within in
+    omega (arith, at, within)
+
+pub all_below : (from below : ℕ) (ss : List Segment) → Rises from (below + 1) ss → All (λ n. n < below) (elements ss)
+all_below from below [] r = All-nil (λ n. n < below)
+all_below from below (s ∷ ss) r =
+    let end = bounds (suc s.end) (below + 1) ss r.2 in
+    All-append (λ n. n < below) (numbers s.start s.end) (elements ss) (range_below s.start (s.end - s.start) below (omega (arith, r.1, end))) (all_below (suc s.end) below ss r.2)
