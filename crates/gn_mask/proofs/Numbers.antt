@@ -4,8 +4,8 @@ use Rattle.std.specs.Prelude.{nat_le, nat_lt}
 use Rattle.std.specs.List.{list_any, filter, range_with_len, slice_get}
 use Rattle.std.proofs.lemmas.Bool.{eqb-true, eqb-false, cases_Bool}
 use Rattle.std.proofs.lemmas.Bool.Decides.{nat_tests}
+use Rattle.std.proofs.lemmas.List.{append_assoc}
 use Rattle.std.proofs.lemmas.List.Elements.{filter-append}
-use mir.Val.{bool_byte}
 use Rattle.gn_mask.specs.Numbers.{numbers, is_among}
 
 range_split : (a n m : ℕ) → range_with_len a n ++ range_with_len (a + n) m ≡ range_with_len a (n + m)
@@ -48,9 +48,9 @@ pub among_filter : (p : ℕ → Bool) (ys : List ℕ) (x : ℕ) → is_among (fi
 among_filter p [] x = refl
 among_filter p (y ∷ ys) x = kept p x y (is_among ys x) ys (among_filter p ys x)
 
--- one more truth
-pub truths_more : (ts : List Bool) (k : ℕ) (t : Bool) → get_or ts k false ≡ t
-    → filter (λ n. get_or ts n false) (numbers 0 (k + 1)) ≡ filter (λ n. get_or ts n false) (numbers 0 k) ++ numbers k (k + bool_byte t)
+-- one more truth, and what is found then
+truths_more : (ts : List Bool) (k : ℕ) (t : Bool) → get_or ts k false ≡ t
+    → filter (λ n. get_or ts n false) (numbers 0 (k + 1)) ≡ filter (λ n. get_or ts n false) (numbers 0 k) ++ cond t (numbers k (k + 1)) []
 truths_more ts k t h =
     let p = λ (n : ℕ). get_or ts n false in
     let one : k + 1 - k ≡ 1 = omega arith in
@@ -58,15 +58,18 @@ truths_more ts k t h =
     ∙ filter-append p (numbers 0 k) (numbers k (k + 1))
     ∙ ap (λ n. filter p (numbers 0 k) ++ filter p (range_with_len k n)) one
     ∙ ap (λ b. filter p (numbers 0 k) ++ cond b (k ∷ []) []) h
-    ∙ ap (λ ns. filter p (numbers 0 k) ++ ns) (by t)
-  where
-    by : (t : Bool) → cond t (k ∷ []) [] ≡ numbers k (k + bool_byte t)
-    by true = let one : k + 1 - k ≡ 1 = omega arith in ap (λ n. range_with_len k n) (sym one)
-    by false = let none : k + 0 - k ≡ 0 = omega arith in ap (λ n. range_with_len k n) (sym none)
+    ∙ ap (λ n. filter p (numbers 0 k) ++ cond t (range_with_len k n) []) (sym one)
 
-pub one_at_most : (t : Bool) → bool_byte t ≤ 1
-one_at_most true = omega arith
-one_at_most false = omega arith
+pub true_more : (ts : List Bool) (k from : ℕ) (front : List ℕ) → from ≤ k → get_or ts k false ≡ true
+    → front ++ numbers from k ≡ filter (λ n. get_or ts n false) (numbers 0 k) → front ++ numbers from (k + 1) ≡ filter (λ n. get_or ts n false) (numbers 0 (k + 1))
+true_more ts k from front l h e =
+    ap (λ ns. front ++ ns) (sym (numbers_split from k (k + 1) l (omega arith))) ∙ sym (append_assoc front (numbers from k) (numbers k (k + 1)))
+    ∙ ap (λ ns. ns ++ numbers k (k + 1)) e ∙ sym (truths_more ts k true h)
+
+pub false_more : (ts : List Bool) (k : ℕ) (front : List ℕ) → get_or ts k false ≡ false
+    → front ≡ filter (λ n. get_or ts n false) (numbers 0 k) → front ++ numbers (k + 1) (k + 1) ≡ filter (λ n. get_or ts n false) (numbers 0 (k + 1))
+false_more ts k front h e =
+    ap (λ ns. front ++ ns) (numbers_none (k + 1) (k + 1) (omega arith)) ∙ ap (λ ns. ns ++ []) e ∙ sym (truths_more ts k false h)
 
 -- the number at a position
 pub range_at : (a n k : ℕ) (rest : List ℕ) → k < n → slice_get (range_with_len a n ++ rest) k ≡ Some (a + k)

@@ -130,10 +130,10 @@ one_part size left ns xs ys part parts h g cut taken kept =
     record {
       counted = omega (arith, behind, same);
       follow =
-        ap (λ ns. ns ++ ys) (sym (flat_map_more (λ (part : List ℕ). part) [] parts part))
-        ∙ append_assoc (flat_map (λ part. part) parts) part ys
-        ∙ ap (λ ns. flat_map (λ part. part) parts ++ ns) (ap (λ ns. ns ++ ys) taken ∙ ap (λ ns. take size xs ++ ns) kept ∙ take-append-drop size xs)
-        ∙ cut.follow;
+          ap (λ ns. ns ++ ys) (sym (flat_map_more (λ (part : List ℕ). part) [] parts part))
+          ∙ append_assoc (flat_map (λ part. part) parts) part ys
+          ∙ ap (λ ns. flat_map (λ part. part) parts ++ ns) (ap (λ ns. ns ++ ys) taken ∙ ap (λ ns. take size xs ++ ns) kept ∙ take-append-drop size xs)
+          ∙ cut.follow;
       each = λ l. each_more size parts part (cut.each g) (omega (arith, count, same, l));
       full = full_more size parts part (cut.each g);
       bounded = All-append (λ part. (0 < length part) × (length part ≤ size)) parts (part ∷ []) cut.bounded (All-cons (λ part. (0 < length part) × (length part ≤ size)) part [] (omega (arith, count, same, h, g), omega (arith, count)) (λ k d none. absurd (omega (arith, none))));

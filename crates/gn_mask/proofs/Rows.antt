@@ -1,7 +1,8 @@
 -- The definitions at small masks.
-use Rattle.std.proofs.Common.{◌≡◌, ◌∷◌, [], true, false, refl, arith}
-use Rattle.gn_mask.specs.Numbers.{numbers, is_among, numbers_of, both, without}
-use Rattle.gn_mask.specs.Segments.{elements, covers, start_of, rest}
+use Rattle.std.proofs.Common.{◌≡◌, ℕ, zero, suc, ◌+◌, ◌<◌, ◌≤◌, ◌∷◌, [], length, List, get_or, true, false, refl, arith}
+use Rattle.std.specs.List.{All}
+use Rattle.gn_mask.specs.Numbers.{numbers, is_among, numbers_of, both, without, IsCut}
+use Rattle.gn_mask.specs.Segments.{elements, rest}
 
 -- three of four truths are true
 truths : numbers_of (true ∷ false ∷ true ∷ true ∷ []) ≡ 0 ∷ 2 ∷ 3 ∷ []
@@ -32,3 +33,19 @@ two_segments = refl
 -- from 3 on, in the second of them
 left_of_two : rest (record { start = 0; end = 1 } ∷ record { start = 2; end = 4 } ∷ []) 1 3 ≡ 3 ∷ []
 left_of_two = refl
+
+-- three numbers in parts of two
+abbrev two_parts : List (List ℕ)
+two_parts = (0 ∷ 2 ∷ []) ∷ (3 ∷ []) ∷ []
+
+cut_in_two : IsCut 2 (0 ∷ 2 ∷ 3 ∷ []) two_parts
+cut_in_two = record { follow = refl; full = full; bounded = bounded }
+  where
+    full : (k : ℕ) → k + 1 < 2 → length (get_or two_parts k []) ≡ 2
+    full zero h = refl
+    full (suc k) h = absurd (omega arith)
+
+    bounded : All (λ part. (0 < length part) × (length part ≤ 2)) two_parts
+    bounded zero d h = (omega arith, omega arith)
+    bounded (suc zero) d h = (omega arith, omega arith)
+    bounded (suc (suc k)) d h = absurd (omega arith)

@@ -13,10 +13,16 @@ pub(crate) fn segments_of(alloc: Global, truths: &[bool]) -> Result<Vec<Segment>
     ensures elements { IfOk result (λ segments. elements segments.items ≡ numbers_of truths.now) }
 {
     let mut segments = Vec::new(alloc);
+    // From this number on all truths are true that were looked at.
+    let mut from: u32 = 0;
     for (number, truth) in truths.iter().enumerate() {
-        let start = number as u32;
-        append(&mut segments, start, start + u32::from(*truth))?;
+        if *truth {
+            continue;
+        }
+        append(&mut segments, from, number as u32)?;
+        from = number as u32 + 1;
     }
+    append(&mut segments, from, truths.len() as u32)?;
     Ok(segments)
 }
 
@@ -45,7 +51,11 @@ pub(crate) fn common(alloc: Global, a: &[Segment], b: &[Segment]) -> Result<Vec<
 }
 
 /// The numbers of the first that the second hasn't.
-pub(crate) fn difference(alloc: Global, a: &[Segment], b: &[Segment]) -> Result<Vec<Segment>, Memory>
+pub(crate) fn difference(
+    alloc: Global,
+    a: &[Segment],
+    b: &[Segment],
+) -> Result<Vec<Segment>, Memory>
     requires a { Rises 0 (2 ^ 32) a.now }
     requires b { Rises 0 (2 ^ 32) b.now }
     ensures rises { IfOk result (λ rest. Rises 0 (2 ^ 32) rest.items) }

@@ -12,6 +12,9 @@ fn mask_of(rt: &impl Abort, alloc: Global, numbers: &[u32]) -> Mask {
     Mask::from_truths(alloc, &truths).expect(rt, "memory")
 }
 
+/// Threads may share masks and hand them over.
+fn is_shared<T: Send + Sync>(_: &T) {}
+
 fn assert_is(rt: &impl Abort, mask: &Mask, numbers: &[u32]) {
     assert_eq!(rt; mask.len() as usize, numbers.len());
     for (position, number) in numbers.iter().enumerate() {
@@ -39,10 +42,13 @@ fn masks_are_their_lists(rt: HostRuntime) {
         assert_is(&rt, &mask.minus(a, &other).expect(&rt, "memory"), rest);
     }
     let mask = mask_of(&rt, a, &[0, 2, 3]);
+    is_shared(&mask);
     let parts = mask.chunks(a, 2).expect(&rt, "memory");
     assert_eq!(rt; parts.len(), 2);
     assert_is(&rt, &parts[0], &[0, 2]);
     assert_is(&rt, &parts[1], &[3]);
+    let none = mask_of(&rt, a, &[]).chunks(a, 3).expect(&rt, "memory");
+    assert!(rt; none.is_empty());
     let four = Mask::all(a, 4).expect(&rt, "memory");
     assert_is(&rt, &four.minus(a, &mask).expect(&rt, "memory"), &[1]);
 }

@@ -22,7 +22,7 @@ loop-a_left-preserved c =
     })
 
 pub loop-a_left-preserved-then-y-x : goal.loop-a_left-preserved-then-y-x
-loop-a_left-preserved-then-y-x c = 
+loop-a_left-preserved-then-y-x c =
     let ss = c.loop-a_left.a_left.now in
     let ts = c.loop-a_left.b_left.now in
     let h : 0 < length ss = omega arith in
@@ -36,8 +36,8 @@ loop-a_left-preserved-then-y-x c =
       from = omega (arith, c.max-from.ensures, c.loop-a_left.invariant.from, k.3);
       rises = raise 0 (max c.max.result c.min.result + 1) (max c.max-from.result (start_of ss) + 1) c.append.new.segments.items (omega (arith, c.max.ensures, c.min.ensures, c.start_of.ensures, c.max-from.ensures, f.0, k.0, k.1)) c.in_ok-append.ensures.rises;
       covers = λ n. ap (λ j. covers c.append.new.segments.items n || ((nat_le j n && covers ss n) && not (covers (drop 1 ts) n))) c.max-from.ensures
-        ∙ difference_b ss ts c.loop-a_left.rest.items c.append.new.segments.items c.loop-a_left.from c.max.result c.min.result n h g c.loop-a_left.invariant.a c.loop-a_left.invariant.b c.in_ok-append.ensures.elements c.max.ensures (c.min.ensures ∙ ap (λ k. min (first ss).end k) c.start_of.ensures) c.if-y-x.true
-        ∙ c.loop-a_left.invariant.covers n;
+          ∙ difference_b ss ts c.loop-a_left.rest.items c.append.new.segments.items c.loop-a_left.from c.max.result c.min.result n h g c.loop-a_left.invariant.a c.loop-a_left.invariant.b c.in_ok-append.ensures.elements c.max.ensures (c.min.ensures ∙ ap (λ k. min (first ss).end k) c.start_of.ensures) c.if-y-x.true
+          ∙ c.loop-a_left.invariant.covers n;
     })
 
 pub loop-a_left-preserved-in_default-b_left : goal.loop-a_left-preserved-in_default-b_left

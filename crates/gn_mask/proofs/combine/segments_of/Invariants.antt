@@ -1,4 +1,4 @@
-use Rattle.std.proofs.Common.{◌≡◌, ◌+◌, false, get_or}
+use Rattle.std.proofs.Common.{◌≡◌, ◌+◌, ◌≤◌, ◌++◌, false, get_or}
 use Rattle.std.specs.List.{filter}
 use Rattle.gn_mask.specs.Numbers.{numbers}
 use Rattle.gn_mask.specs.Segments.{elements, Rises}
@@ -6,6 +6,7 @@ use Rattle.gn_mask.proofs.combine.segments_of.Given as goal
 
 abbrev pub invariant-loop-number : goal.invariant-loop-number
 invariant-loop-number l = record {
-  rises : Rises 0 (l.number + 1) l.segments.items;
-  elements : elements l.segments.items ≡ filter (λ n. get_or l.truths n false) (numbers 0 l.number);
+  within : l.from ≤ l.number;
+  rises : Rises 0 (l.from + 1) l.segments.items;
+  found : elements l.segments.items ++ numbers l.from l.number ≡ filter (λ n. get_or l.truths n false) (numbers 0 l.number);
 }

@@ -54,14 +54,14 @@ loop-index-preserved c =
       fits = omega (arith, c.start_at-from.ensures, top);
       rises = raise 0 (max from s.end + 1) (c.start_at-from.result + 1) c.append-in-loop-index.new.segments.items (omega (arith, c.start_at-from.ensures, end.0, in_it.1)) c.in_ok-append-2.ensures.rises;
       taken =
-        ap (λ ns. ns ++ take (left - (s.end - from)) (rest ss (i + 1) c.start_at-from.result)) c.in_ok-append-2.ensures.elements
-        ∙ ap (λ ns. (part ++ numbers from s.end) ++ take (left - (s.end - from)) ns) same
-        ∙ sym (taken_whole from s.end left part (elements next) within)
-        ∙ ap (λ ns. part ++ take left ns) (sym (rest_at ss i from (record { start = 0; end = 0 }) c.loop-index-test.true))
-        ∙ c.loop-index.invariant.taken;
+          ap (λ ns. ns ++ take (left - (s.end - from)) (rest ss (i + 1) c.start_at-from.result)) c.in_ok-append-2.ensures.elements
+          ∙ ap (λ ns. (part ++ numbers from s.end) ++ take (left - (s.end - from)) ns) same
+          ∙ sym (taken_whole from s.end left part (elements next) within)
+          ∙ ap (λ ns. part ++ take left ns) (sym (rest_at ss i from (record { start = 0; end = 0 }) c.loop-index-test.true))
+          ∙ c.loop-index.invariant.taken;
       kept =
-        ap (drop (left - (s.end - from))) same ∙ sym (kept_whole from s.end left (elements next) within)
-        ∙ ap (drop left) (sym (rest_at ss i from (record { start = 0; end = 0 }) c.loop-index-test.true)) ∙ c.loop-index.invariant.kept;
+          ap (drop (left - (s.end - from))) same ∙ sym (kept_whole from s.end left (elements next) within)
+          ∙ ap (drop left) (sym (rest_at ss i from (record { start = 0; end = 0 }) c.loop-index-test.true)) ∙ c.loop-index.invariant.kept;
     }
 
 pub returns-clause-rises : goal.returns-clause-rises
