@@ -1,0 +1,13 @@
+use Rattle.std.proofs.Common.{◌≡◌, ◌∙◌, ◌&&◌, ℕ, not, sym, ap, subst}
+use Rattle.gn_mask.specs.Segments.{covers}
+use Rattle.gn_mask.proofs.Steps.{difference_is}
+use Rattle.gn_mask.proofs.mask.Mask.minus.Goals as goal
+
+pub returns : goal.returns
+returns c =
+    let ss = c.self.inside.segments.items in
+    let ts = c.other.inside.segments.items in
+    let new = c.in_ok-segments.segments.items in
+    let same : (n : ℕ) → covers new n ≡ (covers ss n && not (covers ts n)) =
+    λ n. c.in_ok-segments.ensures.covers n ∙ ap (λ xs. covers xs n && not (covers c.deref-2.result.now n)) c.deref.ensures.value ∙ ap (λ xs. covers ss n && not (covers xs n)) c.deref-2.ensures.value in
+    rw (← c.self.view_is, ← c.other.view_is) (difference_is ss ts new c.self.invariant c.in_ok-segments.ensures.rises same)
