@@ -1,12 +1,12 @@
 //! A diary under a turn, at which two writers take turns.
-ghost use Rattle.std.specs.Prelude.{◌≡◌, ◌≤◌, ◌<◌, ◌-◌, ◌^◌, ◌++◌, true, false, [], ◌∷◌, length, All, IfOk, OnOk, OnErr};
+ghost use Rattle.std.specs.Prelude.{◌≡◌, ◌≤◌, ◌<◌, ◌^◌, ◌++◌, false, [], ◌∷◌, length, All, OnOk, OnErr};
 ghost use Rattle.gn_turn.specs.Passes.{view_of, IsOf, IsSame};
 
 use crate::{Guarded, Pass, Turn};
 use std::alloc::Global;
 use std::sync::Wait;
 use std::test::Fail;
-use std::thread::{Threads, join_mut};
+use std::thread::join_mut;
 
 /// Its job is the largest number that may be written.
 #[derive(Drop)]
