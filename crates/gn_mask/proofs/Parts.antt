@@ -1,11 +1,10 @@
 -- What is left of segments that are cut, and the parts.
-use Rattle.std.proofs.Common.{◌≡◌, ℕ, zero, suc, ◌+◌, ◌-◌, ◌<◌, ◌≤◌, ◌^◌, min, List, [], ◌∷◌, ◌++◌, length, get_or, take, drop, refl, sym, ap, subst, inl, inr, ◌∙◌, arith, length-append, length-take, length-drop}
+use Rattle.std.proofs.Common.{◌≡◌, ℕ, zero, suc, ◌+◌, ◌-◌, ◌<◌, ◌≤◌, ◌^◌, min, List, [], ◌∷◌, ◌++◌, length, get_or, take, drop, refl, sym, ap, subst, inl, inr, ◌∙◌, arith, length-take, length-drop}
 use Rattle.std.specs.Prelude.{◌⊎◌}
 use Rattle.std.specs.List.{All, flat_map, range_with_len}
-use Rattle.std.proofs.lemmas.List.{append_assoc, append-nil, drop_more, drop_all, take_all, take-append-drop, get_or_append_left, get_or_push, length_push, flat_map_more}
+use Rattle.std.proofs.lemmas.List.{append_assoc, append-nil, drop_more, take-append-drop, get_or_append_left, get_or_push, length_push, flat_map_more}
 use Rattle.std.proofs.lemmas.List.Elements.{All-append, All-cons}
 use Rattle.std.proofs.lemmas.Bool.{cases_lt}
-use Rattle.std.proofs.lemmas.List.FromFn.{length-range_with_len}
 use Rattle.gn_mask.specs.declared.segment.Segment.{Segment}
 use Rattle.gn_mask.specs.Numbers.{numbers, IsCut}
 use Rattle.gn_mask.specs.Segments.{elements, elements_from, rest, start_of, IsIn, IsAt, Rises}

@@ -1,7 +1,6 @@
 -- Segments that rise, and their numbers.
-use Rattle.std.proofs.Common.{◌≡◌, ℕ, zero, suc, ◌+◌, ◌-◌, ◌<◌, ◌≤◌, ◌^◌, max, min, Bool, true, false, ◌&&◌, ◌||◌, eqb, List, [], ◌∷◌, ◌++◌, length, get_or, take, drop, refl, sym, ap, subst, ◌∙◌, arith, length-append, Some}
-use Rattle.std.specs.Prelude.{nat_le, nat_lt}
-use Rattle.std.specs.List.{All, slice_get, list_any, flat_map, range_with_len}
+use Rattle.std.proofs.Common.{◌≡◌, ℕ, zero, suc, ◌+◌, ◌-◌, ◌<◌, ◌≤◌, max, ◌||◌, eqb, List, [], ◌∷◌, ◌++◌, length, get_or, take, drop, refl, sym, ap, subst, ◌∙◌, arith, length-append, Some}
+use Rattle.std.specs.List.{All, slice_get, range_with_len}
 use Rattle.std.proofs.lemmas.List.{append_assoc, take_all, take_more, drop_more}
 use Rattle.std.proofs.lemmas.Option.{slice_get_within, get_or_from_slice_get}
 use Rattle.std.proofs.lemmas.List.Folds.{list_any-append}
@@ -9,7 +8,7 @@ use Rattle.std.proofs.lemmas.List.Elements.{All-nil, All-append}
 use Rattle.std.proofs.lemmas.List.FromFn.{length-range_with_len, get_or-range_with_len}
 use Rattle.gn_mask.specs.declared.segment.Segment.{Segment}
 use Rattle.gn_mask.specs.Numbers.{numbers, is_among}
-use Rattle.gn_mask.specs.Segments.{elements, is_inside, covers, Rises, start_of}
+use Rattle.gn_mask.specs.Segments.{elements, is_inside, covers, Rises}
 use Rattle.gn_mask.proofs.Numbers.{among_numbers}
 use Rattle.gn_mask.proofs.Rising.{Rising, rising_lower, rising_range, rising_append}
 

@@ -1,7 +1,6 @@
 -- One step along the segments of two masks.
-use Rattle.std.proofs.Common.{◌≡◌, ℕ, zero, suc, ◌+◌, ◌-◌, ◌<◌, ◌≤◌, ◌^◌, max, min, Bool, true, false, not, ◌&&◌, ◌||◌, List, [], ◌∷◌, ◌++◌, length, get_or, drop, refl, sym, ap, ◌∙◌, arith}
+use Rattle.std.proofs.Common.{◌≡◌, ℕ, suc, ◌-◌, ◌<◌, ◌≤◌, ◌^◌, max, min, Bool, true, false, not, ◌&&◌, ◌||◌, List, [], ◌∷◌, ◌++◌, length, get_or, drop, refl, sym, ap, ◌∙◌, arith}
 use Rattle.std.specs.Prelude.{nat_le, nat_lt, nat_eq}
-use Rattle.std.specs.List.{list_any}
 use Rattle.std.proofs.lemmas.List.Folds.{list_any-append}
 use Rattle.std.proofs.lemmas.Bool.{and_parts, or_parts, leb-true}
 use Rattle.std.proofs.lemmas.Bool.Decides.{nat_tests}
@@ -9,7 +8,7 @@ use Rattle.gn_mask.specs.declared.segment.Segment.{Segment}
 use Rattle.gn_mask.specs.Numbers.{numbers, is_among, both, without}
 use Rattle.gn_mask.specs.Segments.{elements, is_inside, covers, Rises, start_of}
 use Rattle.gn_mask.proofs.Numbers.{among_numbers, among_filter}
-use Rattle.gn_mask.proofs.Rising.{Rising, same_rising, rising_filter}
+use Rattle.gn_mask.proofs.Rising.{same_rising, rising_filter}
 use Rattle.gn_mask.proofs.Segments.{bounds, covers_is, rising}
 
 -- the first segment

@@ -9,6 +9,7 @@ fn mask_of(rt: &impl Abort, alloc: Global, numbers: &[u32]) -> Mask {
         truths.resize(*number as usize, false).expect(rt, "memory");
         truths.push(true).expect(rt, "memory");
     }
+    assert!(rt; truths.len() < 100);
     Mask::from_truths(alloc, &truths).expect(rt, "memory")
 }
 

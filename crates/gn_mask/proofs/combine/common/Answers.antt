@@ -1,8 +1,8 @@
-use Rattle.std.proofs.Common.{◌≡◌, ◌∙◌, ◌+◌, ◌-◌, ◌<◌, ◌≤◌, ◌^◌, max, length, drop, arith}
+use Rattle.std.proofs.Common.{◌∙◌, ◌+◌, ◌<◌, ◌^◌, max, length, drop, arith}
 use Rattle.std.proofs.lemmas.List.{take_rest}
 use Rattle.gn_mask.specs.Segments.{start_of}
 use Rattle.gn_mask.proofs.Segments.{raise, rises_drop}
-use Rattle.gn_mask.proofs.Steps.{first, front, start_top, common_a, common_b}
+use Rattle.gn_mask.proofs.Steps.{front, start_top, common_a, common_b}
 use Rattle.gn_mask.proofs.combine.common.Goals as goal
 
 pub loop-a_left-preserved : goal.loop-a_left-preserved

@@ -1,4 +1,4 @@
-use Rattle.std.proofs.Common.{◌≡◌, ◌∙◌, ◌+◌, ◌-◌, ◌<◌, ◌≤◌, ◌^◌, max, min, not, ◌&&◌, ◌||◌, length, drop, ap, arith}
+use Rattle.std.proofs.Common.{◌∙◌, ◌+◌, ◌<◌, ◌^◌, max, min, not, ◌&&◌, ◌||◌, length, drop, ap, arith}
 use Rattle.std.specs.Prelude.{nat_le}
 use Rattle.std.proofs.lemmas.List.{take_rest}
 use Rattle.gn_mask.specs.Segments.{covers, start_of}

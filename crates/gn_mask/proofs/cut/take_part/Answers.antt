@@ -1,6 +1,6 @@
-use Rattle.std.proofs.Common.{◌≡◌, ◌∙◌, ◌+◌, ◌-◌, ◌≤◌, ◌<◌, ◌^◌, ◌++◌, max, sym, ap, get_or, take, drop, arith}
+use Rattle.std.proofs.Common.{◌≡◌, ◌∙◌, ◌+◌, ◌-◌, ◌≤◌, ◌^◌, ◌++◌, max, sym, ap, get_or, take, drop, arith}
 use Rattle.gn_mask.specs.Numbers.{numbers}
-use Rattle.gn_mask.specs.Segments.{elements, rest, IsAt}
+use Rattle.gn_mask.specs.Segments.{elements, rest}
 use Rattle.gn_mask.proofs.Segments.{raise, rises_drop}
 use Rattle.gn_mask.proofs.Steps.{start_top}
 use Rattle.gn_mask.proofs.Parts.{rest_at, rest_start, is_at_in, is_in_start, next_start, taken_front, kept_front, taken_whole, kept_whole}

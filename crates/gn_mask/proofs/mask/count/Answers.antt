@@ -1,4 +1,4 @@
-use Rattle.std.proofs.Common.{◌≡◌, ◌+◌, ◌-◌, ◌≤◌, ◌^◌, ◌∙◌, ap, length, drop, arith}
+use Rattle.std.proofs.Common.{◌≡◌, ◌+◌, ◌-◌, ◌^◌, ap, length, drop, arith}
 use Rattle.std.proofs.lemmas.List.{drop_all}
 use Rattle.gn_mask.specs.Segments.{elements}
 use Rattle.gn_mask.proofs.Segments.{length_at, few}

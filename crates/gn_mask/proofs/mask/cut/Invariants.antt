@@ -1,4 +1,3 @@
-use Rattle.std.proofs.Common.{◌≡◌}
 use Rattle.gn_mask.specs.Segments.{elements, rest, IsAt}
 use Rattle.gn_mask.proofs.Parts.{AreCut}
 use Rattle.gn_mask.proofs.mask.cut.Given as goal

@@ -1,7 +1,7 @@
-use Rattle.std.proofs.Common.{◌≡◌, ◌∙◌, ◌+◌, ◌<◌, ◌++◌, ◌∷◌, [], suc, max, sym, ap, arith}
+use Rattle.std.proofs.Common.{◌≡◌, ◌∙◌, ◌+◌, ◌<◌, ◌++◌, suc, max, sym, ap, arith}
 use Rattle.std.proofs.lemmas.List.{append_assoc}
 use Rattle.gn_mask.specs.Numbers.{numbers}
-use Rattle.gn_mask.specs.Segments.{elements, Rises}
+use Rattle.gn_mask.specs.Segments.{elements}
 use Rattle.gn_mask.proofs.Numbers.{numbers_split}
 use Rattle.gn_mask.proofs.Segments.{behind, elements_more}
 use Rattle.gn_mask.proofs.segment.append.Goals as goal

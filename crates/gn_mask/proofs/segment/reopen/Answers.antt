@@ -1,10 +1,7 @@
-use Rattle.std.proofs.Common.{◌≡◌, ◌-◌, length, take, Some, subst, sym, ap, ◌∙◌, arith}
+use Rattle.std.proofs.Common.{◌≡◌, ◌-◌, length, Some, arith}
 use Rattle.std.specs.Vec.{vec_len}
 use Rattle.std.specs.List.{slice_get}
-use Rattle.gn_mask.specs.Segments.{Rises}
-use Rattle.gn_mask.proofs.Segments.{apart, before_last, elements_more, few, covers_is}
-use Rattle.gn_mask.proofs.Rising.{same_rising, increases, rising_filter}
-use Rattle.gn_mask.proofs.Numbers.{among_filter, numbers_split, numbers_none}
+use Rattle.gn_mask.proofs.Segments.{apart, before_last}
 use Rattle.gn_mask.proofs.segment.reopen.Goals as goal
 
 pub returns-then-last-end-clause-rises : goal.returns-then-last-end-clause-rises

@@ -1,4 +1,4 @@
-use Rattle.std.proofs.Common.{◌≡◌, ◌∙◌, ◌&&◌, ℕ, sym, ap, subst}
+use Rattle.std.proofs.Common.{◌≡◌, ◌∙◌, ◌&&◌, ℕ, ap}
 use Rattle.gn_mask.specs.Segments.{covers}
 use Rattle.gn_mask.proofs.Steps.{common_is}
 use Rattle.gn_mask.proofs.mask.Mask.and.Goals as goal

@@ -1,4 +1,4 @@
-use Rattle.std.proofs.Common.{◌≡◌, ◌∙◌, ◌&&◌, ℕ, not, sym, ap, subst}
+use Rattle.std.proofs.Common.{◌≡◌, ◌∙◌, ◌&&◌, ℕ, not, ap}
 use Rattle.gn_mask.specs.Segments.{covers}
 use Rattle.gn_mask.proofs.Steps.{difference_is}
 use Rattle.gn_mask.proofs.mask.Mask.minus.Goals as goal
