@@ -5,7 +5,7 @@
 //!
 //! A mesh is made from lists that are checked once, and what they must be like then holds of it
 //! for good. Contracts see its arrays, each with its items and with the parts of the right to share
-//! that the handle has; `plain_of` forgets the handles and gives the mesh of `gn_plain`. The crate
+//! that the handle has; `plain_of` forgets the handles and returns the mesh of `gn_plain`. The crate
 //! stands on `gn_value`, `gn_plain` and `gn_shared`, and finds equal edges by `gn_edges`.
 #![tactic(auto)]
 

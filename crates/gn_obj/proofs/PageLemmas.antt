@@ -90,7 +90,7 @@ one_cut whole text rest w w' w'' left k =
 pub none_left : (whole : List ℕ) (w w' : Writer) → IsLeft whole [] w w' → Grown whole w w'
 none_left whole w w' left = subst (λ t. Grown t w w') (sym (append-nil left.0) ∙ left.2) left.1
 
--- a step of a loop over a list, of which the elements from i on give what is left
+-- a step of a loop over a list, where what is left is the text of the elements from i on
 pub more_written : {X : Type 0} (rest_of : List X → List ℕ) (xs : List X) (i : ℕ) (d : X) (whole text rest : List ℕ) (w w' w'' : Writer) → i < length xs
     → rest_of (get_or xs i d ∷ drop (i + 1) xs) ≡ text ++ rest → IsLeft whole (rest_of (drop i xs)) w w' → Grown text w' w'' → IsLeft whole rest w w''
 more_written rest_of xs i d whole text rest w w' w'' within e left g =
