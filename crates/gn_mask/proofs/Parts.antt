@@ -1,12 +1,9 @@
 -- What is left of segments that are cut, and the parts.
-use Rattle.std.proofs.Common.{◌≡◌, ℕ, zero, suc, ◌+◌, ◌-◌, ◌<◌, ◌≤◌, ◌^◌, min, List, [], ◌∷◌, ◌++◌, length, get_or, take, drop, refl, sym, ap, subst, inl, inr, ◌∙◌, arith, length-take, length-drop}
-use Rattle.std.specs.Prelude.{◌⊎◌}
+use Rattle.std.proofs.Common.{◌≡◌, ℕ, zero, suc, ◌+◌, ◌-◌, ◌<◌, ◌≤◌, ◌^◌, List, [], ◌∷◌, ◌++◌, length, get_or, take, drop, refl, sym, ap, subst, ◌∙◌, arith}
 use Rattle.std.specs.List.{All, flat_map, range_with_len}
-use Rattle.std.proofs.lemmas.List.{append_assoc, append-nil, drop_more, take-append-drop, get_or_append_left, get_or_push, length_push, flat_map_more}
-use Rattle.std.proofs.lemmas.List.Elements.{All-append, All-cons}
-use Rattle.std.proofs.lemmas.Bool.{cases_lt}
+use Rattle.std.proofs.lemmas.List.{append_assoc, drop_more}
 use Rattle.gn_mask.specs.declared.segment.Segment.{Segment}
-use Rattle.gn_mask.specs.Numbers.{numbers, IsCut}
+use Rattle.gn_mask.specs.Numbers.{numbers}
 use Rattle.gn_mask.specs.Segments.{elements, elements_from, rest, start_of, IsIn, IsAt, Rises}
 use Rattle.gn_mask.proofs.Segments.{bounds, rises_drop}
 
@@ -52,9 +49,6 @@ rest_at ss i from d h = ap (elements_from from) (drop_more ss i d h)
 pub is_at_in : (ss : List Segment) (i from : ℕ) (d : Segment) → i < length ss → IsAt ss i from → ((get_or ss i d).start ≤ from) × (from ≤ (get_or ss i d).end)
 is_at_in ss i from d h at = subst (λ ts. IsIn from ts) (drop_more ss i d h) at
 
-pub is_at_from : (ss : List Segment) (i from : ℕ) (d : Segment) → i < length ss → (get_or ss i d).start ≤ from → from ≤ (get_or ss i d).end → IsAt ss i from
-is_at_from ss i from d h low high = subst (λ ts. IsIn from ts) (sym (drop_more ss i d h)) (low, high)
-
 -- where the segment behind starts
 pub next_start : (ss : List Segment) (i : ℕ) (d : Segment) → Rises 0 (2 ^ 32) ss → i < length ss → ((get_or ss i d).end ≤ start_of (drop (i + 1) ss)) × ((get_or ss i d).end < 2 ^ 32)
 next_start ss i d r h =
@@ -87,32 +81,7 @@ kept_front from end left ys h =
     let e : end - from - left ≡ end - (from + left) = omega arith in
     drop_within from (end - from) left ys h ∙ ap (λ k. range_with_len (from + left) k ++ ys) e
 
-pub take_none : (n : ℕ) → take {A = ℕ} n [] ≡ []
-take_none zero = refl
-take_none (suc n) = refl
-
-pub drop_none : (n : ℕ) → drop {A = ℕ} n [] ≡ []
-drop_none zero = refl
-drop_none (suc n) = refl
-
 -- ---- the parts
-
--- one part more, of which the ones before are full
-full_more : (size : ℕ) (parts : List (List ℕ)) (part : List ℕ) → ((k : ℕ) → k < length parts → length (get_or parts k []) ≡ size) → (k : ℕ) → k + 1 < length (parts ++ part ∷ []) → length (get_or (parts ++ part ∷ []) k []) ≡ size
-full_more size parts part h k l =
-    let count : length (parts ++ part ∷ []) ≡ length parts + 1 = length_push parts part in
-    let within : k < length parts = omega (arith, l, count) in
-    ap length (get_or_append_left parts (part ∷ []) [] k within) ∙ h k within
-
-each_more : (size : ℕ) (parts : List (List ℕ)) (part : List ℕ) → ((k : ℕ) → k < length parts → length (get_or parts k []) ≡ size) → length part ≡ size → (k : ℕ) → k < length (parts ++ part ∷ []) → length (get_or (parts ++ part ∷ []) k []) ≡ size
-each_more size parts part h f k l = by (cases_lt k (length parts))
-  where
-    by : (k < length parts) ⊎ (length parts ≤ k) → length (get_or (parts ++ part ∷ []) k []) ≡ size
-    by (inl m) = ap length (get_or_append_left parts (part ∷ []) [] k m) ∙ h k m
-    by (inr m) =
-        let count : length (parts ++ part ∷ []) ≡ length parts + 1 = length_push parts part in
-        let last : length parts ≡ k = omega (arith, l, count) in
-        ap length (get_or_push parts part [] k last) ∙ f
 
 pub record AreCut (size left : ℕ) (ns rest : List ℕ) (parts : List (List ℕ)) : Type 0 where
   pub counted : left ≡ length rest
@@ -120,33 +89,3 @@ pub record AreCut (size left : ℕ) (ns rest : List ℕ) (parts : List (List ℕ
   pub each : 0 < left → (k : ℕ) → k < length parts → length (get_or parts k []) ≡ size
   pub full : (k : ℕ) → k + 1 < length parts → length (get_or parts k []) ≡ size
   pub bounded : All (λ part. (0 < length part) × (length part ≤ size)) parts
-
-pub one_part : (size left : ℕ) (ns xs ys part : List ℕ) (parts : List (List ℕ)) → 0 < size → 0 < left → AreCut size left ns xs parts → part ≡ take size xs → ys ≡ drop size xs → AreCut size (left - size) ns ys (parts ++ part ∷ [])
-one_part size left ns xs ys part parts h g cut taken kept =
-    let count : length part ≡ min size (length xs) = ap length taken ∙ length-take size xs in
-    let behind : length ys ≡ length xs - size = ap length kept ∙ length-drop size xs in
-    let same = cut.counted in
-    record {
-      counted = omega (arith, behind, same);
-      follow =
-          ap (λ ns. ns ++ ys) (sym (flat_map_more (λ (part : List ℕ). part) [] parts part))
-          ∙ append_assoc (flat_map (λ part. part) parts) part ys
-          ∙ ap (λ ns. flat_map (λ part. part) parts ++ ns) (ap (λ ns. ns ++ ys) taken ∙ ap (λ ns. take size xs ++ ns) kept ∙ take-append-drop size xs)
-          ∙ cut.follow;
-      each = λ l. each_more size parts part (cut.each g) (omega (arith, count, same, l));
-      full = full_more size parts part (cut.each g);
-      bounded = All-append (λ part. (0 < length part) × (length part ≤ size)) parts (part ∷ []) cut.bounded (All-cons (λ part. (0 < length part) × (length part ≤ size)) part [] (omega (arith, count, same, h, g), omega (arith, count)) (λ k d none. absurd (omega (arith, none))));
-    }
-
-pub all_parts : (size left : ℕ) (ns xs : List ℕ) (parts : List (List ℕ)) → left ≤ 0 → AreCut size left ns xs parts → IsCut size ns parts
-all_parts size left ns xs parts h cut =
-    let none : length xs ≡ 0 = omega (arith, cut.counted) in
-    record {
-      follow = sym (append-nil (flat_map (λ part. part) parts)) ∙ ap (λ ns. flat_map (λ part. part) parts ++ ns) (sym (empty xs none)) ∙ cut.follow;
-      full = cut.full;
-      bounded = cut.bounded;
-    }
-  where
-    empty : (xs : List ℕ) → length xs ≡ 0 → xs ≡ []
-    empty [] e = refl
-    empty (x ∷ xs) e = absurd (omega arith)
