@@ -164,7 +164,9 @@ impl<T: Drop, const LIMIT: u64> SharedArray<T, LIMIT> {
         })
     }
 
-    pub(crate) fn claim(&mut self) -> Result<(), InUse>
+    /// Makes sure that this is the only handle of its block, so that `sole_items` lends the items. It
+    /// is refused while there are others, of which it then returns the number with this one.
+    pub fn claim(&mut self) -> Result<(), InUse>
         ensures ok { OnOk result ((self.new.parts ≡ LIMIT) × (self.new.items ≡ self.old.items) × (self.new.block ≡ self.old.block)) }
         ensures err { IfErr result (λ e. (2 ≤ e.users) × (self.old.parts ≢ LIMIT) × (self.new ≡ self.old)) }
     {

@@ -29,7 +29,8 @@ impl<T: Drop, const LIMIT: u64> SharedArray<T, LIMIT> {
         self.hold.alone_vec()
     }
 
-    fn sole_items(&mut self) -> &mut [T]
+    /// The items of a handle that is sole, to write to.
+    pub fn sole_items(&mut self) -> &mut [T]
         requires { self.old.parts ≡ LIMIT }
         ensures* writes_back { sem 𝓛 (LendsItems T.row LIMIT.row LIMIT self.entry result) }
         ensures value { result.now ≡ self.old.items }
