@@ -24,6 +24,9 @@ numbers_split a b c h g =
 pub numbers_none : (a b : ℕ) → b ≤ a → numbers a b ≡ []
 numbers_none a b h = let e : b - a ≡ 0 = omega arith in ap (λ n. range_with_len a n) e
 
+pub numbers_one : (a : ℕ) → numbers a (a + 1) ≡ a ∷ []
+numbers_one a = let e : a + 1 - a ≡ 1 = omega arith in ap (λ n. range_with_len a n) e
+
 among_range : (a n x : ℕ) → is_among (range_with_len a n) x ≡ (nat_le a x && nat_lt x (a + n))
 among_range a zero x = grind (arith, nat_tests)
 among_range a (suc n) x = rw (among_range (a + 1) n x) (grind (arith, nat_tests))

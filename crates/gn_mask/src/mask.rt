@@ -1,4 +1,4 @@
-ghost use Rattle.std.specs.Prelude.{◌≡◌, ◌<◌, ◌^◌, ◌-◌, length, map, IfOk};
+ghost use Rattle.std.specs.Prelude.{◌≡◌, ◌<◌, ◌^◌, ◌-◌, ◌++◌, length, map, IfOk, OnOk};
 ghost use Rattle.std.specs.List.{All, slice_get};
 ghost use Rattle.std.specs.List.Sorted.{IsStrictlyIncreasing};
 ghost use Rattle.gn_mask.specs.Numbers.{numbers, numbers_of, is_among, both, without, IsCut};
@@ -55,6 +55,29 @@ fn find(segments: &[Segment], position: u32) -> Option<u32>
         left -= width;
     }
     None
+}
+
+/// Puts the numbers of a segment behind others.
+fn put(list: &mut Vec<u32>, segment: &Segment) -> Result<(), Memory>
+    ensures { OnOk result (list.new.items ≡ list.old.items ++ numbers segment.now.start segment.now.end) }
+{
+    for number in segment.start..segment.end {
+        list.push(number)?;
+    }
+    Ok(())
+}
+
+/// The numbers of segments.
+fn listed(alloc: Global, segments: &[Segment]) -> Result<Vec<u32>, Memory>
+    requires { Rises 0 (2 ^ 32) segments.now }
+    ensures { IfOk result (λ numbers. numbers.items ≡ elements segments.now) }
+{
+    let mut numbers = Vec::new(alloc);
+    numbers.reserve(count(segments) as usize)?;
+    for segment in segments {
+        put(&mut numbers, segment)?;
+    }
+    Ok(numbers)
 }
 
 /// Cuts segments into parts of a size, of which the last may be smaller.
@@ -120,7 +143,14 @@ impl Mask {
         cut(alloc, &self.segments, size)
     }
 
-    /// How many numbers there are. They rise, and are below 2^32 - 1.
+    /// All numbers, as a list.
+    pub fn to_vec(&self, alloc: Global) -> Result<Vec<u32>, Memory>
+        ensures { IfOk result (λ numbers. numbers.items ≡ self.now) }
+    {
+        listed(alloc, &self.segments)
+    }
+
+    /// The number of numbers. They rise, and are below 2^32 - 1.
     pub fn len(&self) -> u32
         ensures length { result ≡ length self.now }
         ensures rising { IsStrictlyIncreasing self.now }
