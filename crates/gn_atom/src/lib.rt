@@ -14,6 +14,3 @@ mod text;
 pub use atom::{Atom, is_atom};
 pub use constant::{constant_as, constant_in};
 pub use text::is_id;
-
-#[cfg(test)]
-mod tests;

@@ -21,7 +21,7 @@ use Rattle.gn_rules.specs.declared.shape.Shape.{Shape}
 use Rattle.gn_rules.specs.Things.{all_nodes}
 use Rattle.gn_rules.specs.Walk.{breaks, breaks_node, in_group_name, in_node, in_settings, first_node, in_sockets, in_given_out, first_input, in_group, first_group, this_or, in_input, in_output, breaks_all}
 use Rattle.gn_rules.specs.Sockets.{Declared, one_of, inputs_of}
-use Rattle.gn_scopes.specs.Nodes.{settings_in, inputs_in}
+use Rattle.gn_tree.specs.Nodes.{settings_in, inputs_in}
 use Rattle.gn_scopes.specs.Settings.{group_set, zone_set}
 use Rattle.gn_check.specs.Finds.{Finds}
 use Rattle.gn_check.specs.Zones.{in_inputs_of_node, in_zone, in_body}

@@ -8,7 +8,7 @@ use Rattle.gn_rules.specs.Scopes.{Scope, group_scope, tree_scope}
 use Rattle.gn_rules.specs.Things.{Thing}
 use Rattle.gn_rules.specs.Walk.{first_input, in_settings, in_sockets, in_given_out, first_node, in_output}
 use Rattle.gn_rules.specs.Sockets.{inputs_of}
-use Rattle.gn_scopes.specs.Nodes.{inputs_in}
+use Rattle.gn_tree.specs.Nodes.{inputs_in}
 
 abbrev pub in_zone : (Thing → Bool) → Scope → Zone → Option Pointer
 in_zone bad s zone = in_settings bad s (and_zone (map socket_of zone.items.items) (nodes_of zone.nodes.items) (map named_of zone.output.items) no_settings)

@@ -10,7 +10,7 @@ use gn_kinds::SocketKind;
 use gn_memory::Memory;
 use gn_names::Names;
 use gn_rules::{Rule, Shape, Sought};
-use gn_scopes::{Groups, Scope, id_of, is_zone, settings_of};
+use gn_scopes::{Groups, Scope, is_zone};
 use gn_tree::{Node, Tree, TreeInput, TreeLink};
 use gn_value::Value;
 use std::alloc::Global;
@@ -110,12 +110,7 @@ fn link_clashes(scope: &Scope<'_, '_>, kind: SocketKind, link: &TreeLink) -> boo
 fn any_clashes(scope: &Scope<'_, '_>, kind: SocketKind, links: &[TreeLink]) -> bool
     ensures { result ≡ list_any (rules.link_clashes (scope_of scope.now) kind) (map link_of links.now) }
 {
-    for link in links {
-        if link_clashes(scope, kind, link) {
-            return true;
-        }
-    }
-    false
+    links.iter().any(|link| link_clashes(scope, kind, link))
 }
 
 /// Whether the input doesn't fit a socket of that shape.
@@ -160,7 +155,7 @@ pub(crate) fn input_breaks(scope: &Scope<'_, '_>, shape: Option<Shape>, input: &
 fn is_too_high(scope: &Scope<'_, '_>, node: &Node) -> bool
     ensures { result ≡ rules.is_too_high (scope_of scope.now) node.now }
 {
-    is_zone(settings_of(node)) && scope.groups.measures.is_higher(scope.above, node, 2)
+    is_zone(node.settings()) && scope.groups.measures.is_higher(scope.above, node, 2)
 }
 
 /// Whether the node with that number breaks a rule by itself.
@@ -172,7 +167,7 @@ pub(crate) fn node_breaks(
 ) -> Result<bool, Memory>
     ensures { IfOk result (λ found. found ≡ walk.breaks_node scope.now.sought (scope_of scope.now) number node.now) }
 {
-    if scope.sought.has(Rule::Names) && is_taken(&scope.ids, number, id_of(node)) {
+    if scope.sought.has(Rule::Names) && is_taken(&scope.ids, number, node.id()) {
         return Ok(true);
     }
     if scope.sought.has(Rule::Height) && is_too_high(scope, node) {

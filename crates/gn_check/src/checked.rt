@@ -67,16 +67,15 @@ fn judge(
     requires named { IfOk found (λ named. Tells (tree_of tree) (option_map (λ x. (x.0, pointer_of x.1)) named)) }
     ensures { Answers (tree_of tree) result }
 {
-    match found {
-        Ok(None) => Ok(GoodTree { tree }),
-        Ok(Some((rule, pointer))) => match pointer_string(alloc, &pointer) {
-            Ok(place) => Err(CheckFault::Form {
+    match found? {
+        None => Ok(GoodTree { tree }),
+        Some((rule, pointer)) => {
+            let place = pointer_string(alloc, &pointer)?;
+            Err(CheckFault::Form {
                 place,
                 rule: rule.number(),
-            }),
-            Err(_) => Err(CheckFault::Memory),
-        },
-        Err(_) => Err(CheckFault::Memory),
+            })
+        }
     }
 }
 

@@ -1,3 +1,4 @@
+use gn_memory::Memory;
 use thiserror::Error;
 
 /// Why a tree is not well formed.
@@ -10,4 +11,15 @@ pub enum CheckFault {
     /// There was no memory.
     #[error("out of memory")]
     Memory,
+}
+
+impl From<Memory> for CheckFault {
+    ghost use Rattle.std.specs.Prelude.{◌≡◌};
+    ghost use Rattle.gn_check.specs.declared.fault.CheckFault.TheVariants.{Memory};
+
+    ghost from_gives = { λ _ fault. fault ≡ Memory };
+
+    fn from(_: Memory) -> Self {
+        CheckFault::Memory
+    }
 }

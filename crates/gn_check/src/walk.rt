@@ -18,9 +18,7 @@ use gn_kinds::SocketKind;
 use gn_memory::Memory;
 use gn_pointers::Step;
 use gn_rules::{Shape, Sought};
-use gn_scopes::{
-    Entries, Groups, Inputs, Scope, Sockets, group_set, inputs_of, settings_of, single, zone_set,
-};
+use gn_scopes::{Entries, Groups, Inputs, Scope, Sockets, group_set, single, zone_set};
 use gn_tree::{Group, Node, Setting, Tree, TreeInput, TreeLink, Zone};
 use std::alloc::Global;
 use std::collections::VecDeque;
@@ -188,7 +186,7 @@ fn in_inputs(
     ensures { Finds result (in_scope in_inputs_of_node scope.now node.now) }
 {
     let declared = scope.inputs_of(number, node);
-    first_input(alloc, scope, &declared, inputs_of(node))
+    first_input(alloc, scope, &declared, node.inputs())
 }
 
 #[cycle(walk)]
@@ -208,7 +206,7 @@ fn in_node<'t>(
     if found.is_some() {
         return at_key(alloc, found, "in");
     }
-    let found = in_settings(alloc, scope, settings_of(node))?;
+    let found = in_settings(alloc, scope, node.settings())?;
     at_key(alloc, found, "set")
 }
 

@@ -1,10 +1,11 @@
 ghost use Rattle.std.specs.Prelude.{◌≡◌, ℕ, ◌+◌, ◌*◌, ◌^◌, ◌<◌, ◌≤◌, ◌∷◌, length, min, OnErr, IfOk, None, Some, option_map, IfSome};
-ghost use Rattle.std.specs.Str.Parse.{digits_value, digits_value_after, starts_with_minus, without_leading_sign};
+ghost use Rattle.std.specs.Str.Parse.{digits_value, digits_value_after};
 ghost use Rattle.gn_decimal.specs.Decimal.{after_digits, after_fraction, digits_of, exponent_of, fraction_of, has_magnitude, small_number, magnitude_of, num, parts_of, signed_exponent};
 ghost use Rattle.gn_decimal.specs.Kept.{Keeps, dropped_of};
 
 use crate::NotANumber;
 use crate::rounding::{magnitude, short_magnitude};
+use crate::sign::split_sign;
 use crate::significand::Significand;
 use gn_value::Fx;
 
@@ -20,19 +21,6 @@ struct Digits<'a> {
     significand: Significand,
     count: usize,
     rest: &'a [u8],
-}
-
-/// Whether a minus stands first, and the text without its sign.
-#[inline(always)]
-fn split_sign(text: &[u8]) -> (bool, &[u8])
-    ensures minus { result.0 ≡ starts_with_minus text.now }
-    ensures unsigned { result.1.now ≡ without_leading_sign text.now }
-{
-    match text {
-        [b'-', unsigned @ ..] => (true, unsigned),
-        [b'+', unsigned @ ..] => (false, unsigned),
-        _ => (false, text),
-    }
 }
 
 /// Puts the digits at the front of the text behind those of `start`.

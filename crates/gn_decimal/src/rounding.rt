@@ -7,7 +7,7 @@ use crate::significand::Significand;
 /// The raw number of 1.
 pub const RAW_ONE: u64 = 4_294_967_296;
 
-/// From so many wholes on a number is out of the range of a fixed number.
+/// A number of that many wholes or more is out of the range of a fixed number.
 const WHOLES_OUT_OF_RANGE: u64 = 2_147_483_648;
 
 const BILLION: u64 = 1_000_000_000;
@@ -15,7 +15,7 @@ const BILLION: u64 = 1_000_000_000;
 /// Units of 10^-18 in a whole.
 const UNITS_IN_ONE: u128 = 1_000_000_000_000_000_000;
 
-/// From so many units on a number is out of the range of a fixed number: 2^31 wholes.
+/// A number of that many units or more, which are 2^31 wholes, is out of the range of a fixed number.
 const OUT_OF_RANGE: u128 = 2_147_483_648_000_000_000_000_000_000;
 
 /// The greatest absolute value of a raw number, 2^63.
@@ -56,7 +56,7 @@ pub fn nearest(dividend: u64, divisor: u64) -> u64
     quotient + u64::from(2 * remainder + quotient % 2 > divisor)
 }
 
-/// The raw number nearest to so many units.
+/// The raw number nearest to a number of units.
 #[tactic(auto, using(std::proofs::lemmas::Bool::Decides::nat_tests), unfolding(crate::specs::Decimal::nearest, crate::specs::Decimal::raw_of))]
 fn raw_of_units(units: u128) -> u64
     requires { units < OUT_OF_RANGE }

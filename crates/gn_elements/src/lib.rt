@@ -23,6 +23,3 @@ mod rule;
 pub use fault::ObjFault;
 pub use parts::Parts;
 pub use read::read_parts;
-
-#[cfg(test)]
-mod tests;

@@ -1,8 +1,9 @@
 ghost use Rattle.std.specs.Prelude.{◌≡◌, ◌<◌, ◌+◌, ◌-◌, ◌*◌, ◌^◌, min};
-ghost use Rattle.std.specs.Str.Parse.{starts_with_minus, without_leading_sign};
 ghost use Rattle.gn_elements.specs.Digits.{number_capped, behind_digits};
 ghost use Rattle.gn_elements.specs.References.{is_end_or_slash};
 ghost use Rattle.gn_elements.specs.Steps.{IsReference};
+
+use gn_decimal::split_sign;
 
 /// What a reference names.
 #[derive(Clone, Copy)]
@@ -13,19 +14,6 @@ pub(crate) enum Reference {
     Missing,
     /// It is not of that form.
     Malformed,
-}
-
-/// Whether the text begins with a minus, and the text without its sign.
-#[inline(always)]
-fn split_sign(text: &[u8]) -> (bool, &[u8])
-    ensures minus { result.0 ≡ starts_with_minus text.now }
-    ensures unsigned { result.1.now ≡ without_leading_sign text.now }
-{
-    match text {
-        [b'-', unsigned @ ..] => (true, unsigned),
-        [b'+', unsigned @ ..] => (false, unsigned),
-        _ => (false, text),
-    }
 }
 
 /// Below this number there is room for one more digit in 32 bits.

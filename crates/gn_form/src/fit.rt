@@ -43,22 +43,10 @@ fn is_input(value: &Value) -> bool
     }
 }
 
-fn input_name(input: InputRow) -> &'static str
-    ensures { result.now ≡ row_input_name (input_of input) }
-{
-    match input {
-        InputRow::Field(name, _, _) => name,
-        InputRow::Single(name, _, _) => name,
-        InputRow::Geometry(name) => name,
-        InputRow::Geometries(name) => name,
-        InputRow::Chosen(name, _) => name,
-    }
-}
-
 fn has_input(inputs: &'static [InputRow], key: &str) -> bool
     ensures { result ≡ list_any (λ x. bytes_eq (row_input_name (input_of x)) key.now) inputs.now }
 {
-    inputs.iter().any(|input| input_name(*input) == key)
+    inputs.iter().any(|input| input.name() == key)
 }
 
 fn are_ids(members: &Map<String, Value>) -> bool

@@ -14,6 +14,3 @@ mod walk;
 
 pub use fit::are_links;
 pub use walk::first_misfit;
-
-#[cfg(test)]
-mod tests;

@@ -18,6 +18,3 @@ pub use edges::edges_of;
 pub use geometry::Geometry;
 pub use gn_value::op::Topology;
 pub use mesh::{Mesh, PartsFault};
-
-#[cfg(test)]
-mod tests;

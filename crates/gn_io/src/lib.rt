@@ -22,6 +22,3 @@ pub use mem_sink::MemSink;
 pub use shelf::{Fetched, Shelf};
 pub use sink::{Put, Sink};
 pub use std_sink::StdSink;
-
-#[cfg(test)]
-mod tests;

@@ -1,3 +1,4 @@
+use gn_memory::Memory;
 use thiserror::Error;
 
 /// Why a text is no tree.
@@ -12,4 +13,15 @@ pub enum JsonFault {
     /// There was no memory.
     #[error("out of memory")]
     Memory,
+}
+
+impl From<Memory> for JsonFault {
+    ghost use Rattle.std.specs.Prelude.{◌≡◌};
+    ghost use Rattle.gn_json.specs.declared.fault.JsonFault.TheVariants.{Memory};
+
+    ghost from_gives = { λ _ fault. fault ≡ Memory };
+
+    fn from(_: Memory) -> Self {
+        JsonFault::Memory
+    }
 }

@@ -16,6 +16,3 @@ mod tree;
 
 pub use fault::JsonFault;
 pub use tree::read;
-
-#[cfg(test)]
-mod tests;

@@ -119,16 +119,12 @@ fn judge(
 ) -> Result<Tree, JsonFault>
     ensures { Judged (view value.now) found result }
 {
-    match found {
-        Ok(None) => match tree_in(alloc, value) {
-            Ok(tree) => Ok(tree),
-            Err(_) => Err(JsonFault::Memory),
-        },
-        Ok(Some(pointer)) => match pointer_string(alloc, &pointer) {
-            Ok(place) => Err(JsonFault::Form { place }),
-            Err(_) => Err(JsonFault::Memory),
-        },
-        Err(_) => Err(JsonFault::Memory),
+    match found? {
+        None => Ok(tree_in(alloc, value)?),
+        Some(pointer) => {
+            let place = pointer_string(alloc, &pointer)?;
+            Err(JsonFault::Form { place })
+        }
     }
 }
 

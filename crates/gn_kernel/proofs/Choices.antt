@@ -5,7 +5,7 @@ use Rattle.std.proofs.lemmas.Int.{ints}
 use Rattle.gn_value.specs.Rows.{choice_of, chosen, value_at}
 use Rattle.gn_value.specs.Values.{zero_of}
 use Rattle.gn_value.specs.declared.value.Value.{Value}
-use Rattle.gn_kernel.specs.Registers.{picked}
+use Rattle.gn_kernel.specs.Choices.{picked}
 use Rattle.gn_value.specs.declared.value.ValueKind.{ValueKind}
 
 -- a function of a choice chooses among what it gives

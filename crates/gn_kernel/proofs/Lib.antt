@@ -1,3 +1,3 @@
 pub mod Choices
-pub mod Positions
+pub mod Results
 pub mod Shares

@@ -8,8 +8,8 @@ use crate::numbers::{
     boolean_math, clamp, combine, compare, component, integer_math, map_range, math, mix,
     mix_vectors, round, vector_math,
 };
-use crate::of_kind::OfKind;
 use crate::random::{random_fixed, random_int, random_truth, random_vector};
+use gn_registers::OfKind;
 use gn_value::op::{CompareKind, CompareOp, MixKind, Op};
 use gn_value::{Fx, Value, ValueKind, convert};
 

@@ -2,14 +2,11 @@
 //!
 //! `one` gives the row of an operation at the values of its arguments. `many` does the same at each
 //! position of whole registers, in one typed loop per operation. The crate stands on `gn_value`,
-//! whose specs define the rows.
+//! whose specs define the rows, and on the loops over registers of `gn_registers`.
 #![tactic(auto)]
 
-mod arguments;
 mod element;
-mod loops;
 mod numbers;
-mod of_kind;
 mod operations;
 mod random;
 mod selection;

@@ -5,7 +5,7 @@ ghost use Rattle.gn_value.specs.Arithmetic.{floor_of, one, sat_int};
 ghost use Rattle.gn_value.specs.Values.{by_component, fx, v3};
 ghost use Rattle.gn_value.specs.Rows.{between, boolean_row, clamp_row, compare_row, component_row, integer_quotient, integer_row, map_range_row, math_row, mix_row, range_part, round_row, unit_part, vector_row};
 
-use crate::of_kind::Number;
+use gn_registers::Number;
 use gn_value::op::{
     Axis, BooleanMathOp, CompareOp, IntegerMathOp, MathOp, RoundMode, VectorMathOp,
 };

@@ -7,12 +7,10 @@ ghost use Rattle.gn_value.specs.Values.{converted, fx, v3};
 ghost use Rattle.gn_value.specs.declared.op.Op.TheVariants.{BooleanMath, Convert, FloatToInteger, IntegerMath, Math, SeparateXyz, VectorMath};
 ghost use Rattle.gn_value.specs.declared.value.Value.TheVariants.{Fixed as fixed, Int as int, Truth as truth, Vector as vector};
 ghost use Rattle.gn_value.specs.declared.value.ValueKind.TheVariants.{Fixed, Int, Vector};
-ghost use Rattle.gn_kernel.specs.Registers.{argument, arguments};
+ghost use Rattle.gn_registers.specs.Arguments.{argument, arguments};
 
-use crate::arguments::Arguments;
-use crate::loops::{each, each_two};
 use crate::numbers::{component, divide_integers, fraction, round, sign};
-use crate::of_kind::{Number, OfKind};
+use gn_registers::{Arguments, Number, OfKind, each, each_two};
 use gn_value::op::{
     Axis, BooleanMathOp, CompareOp, IntegerMathOp, MathOp, Register, RoundMode, VectorMathOp,
 };
@@ -169,7 +167,7 @@ pub fn component_lists(op: Axis, args: &Arguments, into: &mut [Fx])
 }
 
 /// A value as one of another kind.
-#[tactic(auto, using(crate::proofs::Positions::converted_kind))]
+#[tactic(auto, using(crate::proofs::Results::converted_kind))]
 fn convert_one<A: OfKind, T: OfKind>(value: A) -> T
     ensures { T.as_value result ≡ converted (A.as_value value) T.KIND }
 {

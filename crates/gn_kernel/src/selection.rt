@@ -4,17 +4,16 @@ ghost use Rattle.gn_value.specs.Registers.{register_kind, register_len};
 ghost use Rattle.gn_value.specs.Operations.{Takes};
 ghost use Rattle.gn_value.specs.Rows.{choice_of, row};
 ghost use Rattle.gn_value.specs.declared.op.Op.TheVariants.{Select};
-ghost use Rattle.gn_kernel.specs.Registers.{argument, arguments, picked};
+ghost use Rattle.gn_registers.specs.Arguments.{argument, arguments};
+ghost use Rattle.gn_kernel.specs.Choices.{picked};
 
-use crate::arguments::Arguments;
 use crate::element::choice_of;
-use crate::loops::set_all;
-use crate::of_kind::OfKind;
+use gn_registers::{Arguments, OfKind, set_all};
 use gn_value::op::Register;
 use gn_value::{Fx, V3, Value};
 
 /// The value where a choice is a case, and else what stands there.
-#[tactic(auto, unfolding(crate::specs::Registers::picked))]
+#[tactic(auto, unfolding(crate::specs::Choices::picked))]
 fn picked<T: Copy>(case: u32, choice: i32, value: T, old: T) -> T
     ensures { result ≡ picked case choice value old }
 {

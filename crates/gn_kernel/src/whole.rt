@@ -6,10 +6,8 @@ ghost use Rattle.gn_value.specs.Rows.{row};
 ghost use Rattle.gn_value.specs.Values.{fx, v3};
 ghost use Rattle.gn_value.specs.declared.value.Value.TheVariants.{Fixed as fixed, Int as int, Truth as truth, Vector as vector};
 ghost use Rattle.gn_value.specs.declared.value.ValueKind.TheVariants.{Fixed, Int, Truth, Vector};
-ghost use Rattle.gn_kernel.specs.Registers.{arguments};
+ghost use Rattle.gn_registers.specs.Arguments.{arguments};
 
-use crate::arguments::Arguments;
-use crate::loops::{each_five, each_four, each_three};
 use crate::numbers::{clamp, combine, map_range, mix, mix_vectors};
 use crate::operations::{
     boolean_lists, compare_lists, component_lists, convert_lists, integer_lists, math_lists,
@@ -17,6 +15,7 @@ use crate::operations::{
 };
 use crate::random::{random_fixed, random_int, random_truth, random_vector};
 use crate::selection::select;
+use gn_registers::{Arguments, OfKind, each_five, each_four, each_three};
 use gn_value::op::{CompareKind, MixKind, Op, Register};
 use gn_value::{Fx, V3};
 
@@ -43,7 +42,7 @@ pub fn many(op: &Op, registers: &[Register], args: &[u32], into: &mut Register)
 }
 
 /// The operations that give truths.
-#[tactic(auto, unfolding(gn_value::specs::Operations::Takes, gn_value::specs::Operations::gives, gn_value::specs::Rows::row), using(crate::proofs::Positions::vectors_give_no_truth, crate::proofs::Positions::mixtures_give_no_truth))]
+#[tactic(auto, unfolding(gn_value::specs::Operations::Takes, gn_value::specs::Operations::gives, gn_value::specs::Rows::row), using(crate::proofs::Results::vectors_give_no_truth, crate::proofs::Results::mixtures_give_no_truth))]
 fn many_truths(op: Op, args: &Arguments, into: &mut [bool])
     requires long { All (λ register. register_len register ≡ length into.old) args.now }
     requires takes { Takes op (map register_kind args.now) }
@@ -70,7 +69,7 @@ fn many_truths(op: Op, args: &Arguments, into: &mut [bool])
 }
 
 /// The operations that give integers.
-#[tactic(auto, unfolding(gn_value::specs::Operations::Takes, gn_value::specs::Operations::gives, gn_value::specs::Rows::row), using(crate::proofs::Positions::vectors_give_no_int, crate::proofs::Positions::mixtures_give_no_int))]
+#[tactic(auto, unfolding(gn_value::specs::Operations::Takes, gn_value::specs::Operations::gives, gn_value::specs::Rows::row), using(crate::proofs::Results::vectors_give_no_int, crate::proofs::Results::mixtures_give_no_int))]
 fn many_integers(op: Op, args: &Arguments, into: &mut [i32])
     requires long { All (λ register. register_len register ≡ length into.old) args.now }
     requires takes { Takes op (map register_kind args.now) }
@@ -137,29 +136,5 @@ fn many_vectors(op: Op, args: &Arguments, into: &mut [V3])
         Op::Select { cases, .. } => select(cases, args, into),
         // No other operation gives such values.
         _ => {}
-    }
-}
-
-#[cfg(test)]
-mod tests {
-    use super::*;
-    use crate::of_kind::OfKind;
-    use gn_value::op::IntegerMathOp;
-    use std::test::Fail;
-
-    #[test]
-    #[tactic(auto, unfolding(gn_value::specs::Operations::Takes, gn_value::specs::Operations::gives))]
-    fn divides_at_each_position(rt: HostRuntime) -> Result<(), Fail> {
-        let registers = [
-            Register::Int(vec![in rt.alloc(); 7, 7, i32::MIN]?),
-            Register::Int(vec![in rt.alloc(); -2, 0, -1]?),
-        ];
-        let mut quotients = Register::Int(vec![in rt.alloc(); 1, 1, 1]?);
-        let op = Op::IntegerMath {
-            op: IntegerMathOp::Divide,
-        };
-        many(&op, &registers, &[0, 1], &mut quotients);
-        assert_eq!(rt; i32::list(&quotients), [-3, 0, i32::MAX].as_slice());
-        Ok(())
     }
 }

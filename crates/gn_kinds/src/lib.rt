@@ -14,6 +14,3 @@ mod table;
 pub use name::{find_kind, find_place, kind_name, place_name};
 pub use row::{DefaultValue, InputRow, OutputRow, Row, SettingForm, SocketKind};
 pub use table::{find_row, sections, socket_kinds};
-
-#[cfg(test)]
-mod tests;

@@ -1,3 +1,7 @@
+ghost use Rattle.std.specs.Prelude.{◌≡◌};
+ghost use Rattle.gn_kinds.specs.Row.{input_name, output_name};
+ghost use Rattle.gn_kinds.specs.Seen.{input_of, output_of};
+
 use gn_value::{Place, Value, ValueKind};
 
 /// What a socket carries: a kind of values, or geometry.
@@ -42,6 +46,21 @@ pub enum InputRow {
     Chosen(&'static str, DefaultValue),
 }
 
+impl InputRow {
+    /// The input's name.
+    pub fn name(&self) -> &'static str
+        ensures { result.now ≡ input_name (input_of self.now) }
+    {
+        match *self {
+            InputRow::Field(name, _, _) => name,
+            InputRow::Single(name, _, _) => name,
+            InputRow::Geometry(name) => name,
+            InputRow::Geometries(name) => name,
+            InputRow::Chosen(name, _) => name,
+        }
+    }
+}
+
 /// An output of a kind: its name and what it gives.
 #[derive(Clone, Copy)]
 pub enum OutputRow {
@@ -51,6 +70,19 @@ pub enum OutputRow {
     Geometry(&'static str),
     /// A field or geometry, of the kind in the setting `type`.
     Chosen(&'static str),
+}
+
+impl OutputRow {
+    /// The output's name.
+    pub fn name(&self) -> &'static str
+        ensures { result.now ≡ output_name (output_of self.now) }
+    {
+        match *self {
+            OutputRow::Field(name, _) => name,
+            OutputRow::Geometry(name) => name,
+            OutputRow::Chosen(name) => name,
+        }
+    }
 }
 
 /// A setting of a kind, and what it must be. Each is required but `Output`.

@@ -2,6 +2,7 @@ ghost use Rattle.std.specs.Prelude.{◌≡◌, ◌-◌, ◌^◌, length, min, op
 ghost use Rattle.gn_lazy.specs.Graphs.{AreThere, LinksLeadBack, Adds, Roots, first_bad, is_there, no_nodes};
 
 use crate::path::Path;
+use gn_memory::Memory;
 use smallvec::SmallVec;
 use std::alloc::Global;
 use std::marker::Model;
@@ -55,6 +56,17 @@ pub enum GraphFault {
     /// There was no memory for it.
     #[error("out of memory")]
     Memory,
+}
+
+impl From<Memory> for GraphFault {
+    ghost use Rattle.std.specs.Prelude.{◌≡◌};
+    ghost use Rattle.gn_lazy.specs.declared.graph.GraphFault.TheVariants.{Memory};
+
+    ghost from_gives = { λ _ fault. fault ≡ Memory };
+
+    fn from(_: Memory) -> Self {
+        GraphFault::Memory
+    }
 }
 
 /// Nodes whose links lead to nodes that were added before them, and links to what the graph gives

@@ -21,7 +21,7 @@ abbrev pub Rises : ℕ → ℕ → List Segment → Type 0
 Rises from below [] = from ≤ below
 Rises from below (s ∷ segments) = (from ≤ s.start) × (s.start < s.end) × Rises (suc s.end) below segments
 
--- where the first segment starts, or the last number of 32 bits where there is none
+-- where the first segment starts, or the last number of 32 bits for no segments
 abbrev pub start_of : List Segment → ℕ
 start_of [] = 2 ^ 32 - 1
 start_of (s ∷ segments) = s.start

@@ -12,7 +12,7 @@ pub(crate) struct Cursor {
     pub(crate) from: u32,
 }
 
-/// Where the segment at an index starts, or the last number of 32 bits where there is none.
+/// Where the segment at an index starts, or the last number of 32 bits behind the last segment.
 fn start_at(segments: &[Segment], index: usize) -> u32
     ensures { result ≡ start_of (drop index segments.now) }
 {

@@ -11,7 +11,7 @@ pub(crate) struct Segment {
     pub(crate) end: u32,
 }
 
-/// Where the first segment starts, or the last number of 32 bits where there is none.
+/// Where the first segment starts, or the last number of 32 bits for no segments.
 pub(crate) fn start_of(segments: &[Segment]) -> u32
     ensures { result ≡ start_of segments.now }
 {

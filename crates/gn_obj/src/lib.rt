@@ -21,6 +21,3 @@ mod write;
 pub use gn_elements::ObjFault;
 pub use read::read_obj;
 pub use write::write_obj;
-
-#[cfg(test)]
-mod tests;

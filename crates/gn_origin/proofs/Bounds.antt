@@ -25,7 +25,7 @@ use Rattle.gn_meaning.specs.There.{LeadsTo, to_the_tree, IsThere}
 use Rattle.gn_meaning.specs.Demand.{output_read}
 use Rattle.gn_meaning.specs.Bodies.{Body, tree_body}
 use Rattle.gn_rules.specs.Scopes.{Scope}
-use Rattle.gn_scopes.specs.Nodes.{kind_in, settings_in, inputs_in}
+use Rattle.gn_tree.specs.Nodes.{kind_in, settings_in, inputs_in}
 use Rattle.gn_origin.specs.Frames.{Frames, way_of, AreOpen}
 use Rattle.gn_origin.proofs.Ways.{leads_to, node_inputs}
 use Rattle.gn_origin.proofs.Steps.{move_part}

@@ -11,7 +11,7 @@ use Rattle.gn_tree.specs.Seen.{socket_of}
 use Rattle.gn_tree.specs.declared.tree.Socket.{Socket as CodeSocket}
 use Rattle.gn_rules.specs.Sockets.{Declared, inputs_of, inputs_of_kind}
 use Rattle.gn_rules.specs.Rules.{KeepsRules}
-use Rattle.gn_scopes.specs.Nodes.{kind_in, inputs_in}
+use Rattle.gn_tree.specs.Nodes.{kind_in, inputs_in}
 use Rattle.gn_meaning.specs.Sites as sites
 use Rattle.gn_meaning.specs.Sites.{Way, the_tree, into, plain_step, at_output, at_input, at_constant, default_at, Read, plain_read}
 use Rattle.gn_meaning.specs.Bodies as meant

@@ -3,7 +3,7 @@ use Rattle.std.proofs.Common.{◌≡◌, ◌++◌, ℕ, List, ◌∷◌, map, Op
 use Rattle.gn_tree.specs.Seen.{tree_of, socket_of}
 use Rattle.gn_tree.specs.Trees.{Named}
 use Rattle.gn_tree.specs.declared.tree.Socket.{Socket as CodeSocket}
-use Rattle.gn_scopes.specs.Nodes.{inputs_in}
+use Rattle.gn_tree.specs.Nodes.{inputs_in}
 use Rattle.gn_meaning.specs.Bodies.{Body, body_at}
 use Rattle.gn_meaning.specs.Origins.{read_origin}
 use Rattle.gn_origin.specs.declared.list.List.{List as CodeList}

@@ -5,7 +5,7 @@ use Rattle.std.proofs.lemmas.Slice.Eq.{bytes_eq-Decides}
 use Rattle.gn_kinds.specs.Row.{Text}
 use Rattle.gn_tree.specs.Trees.{Node, node}
 use Rattle.gn_rules.specs.Scopes.{Scope}
-use Rattle.gn_scopes.specs.Nodes.{kind_in, settings_in}
+use Rattle.gn_tree.specs.Nodes.{kind_in, settings_in}
 use Rattle.gn_meaning.specs.Sites.{Way}
 use Rattle.gn_meaning.specs.Bodies.{Body, body_in}
 use Rattle.gn_meaning.specs.Reads.{part_in}

@@ -11,7 +11,7 @@ use Rattle.gn_rules.specs.declared.shape.Shape.{Shape}
 use Rattle.gn_rules.specs.Sockets.{Declared, one, one_of, declared, chosen, further, outputs_of, outputs_of_kind, output_of_row, node_at}
 use Rattle.gn_rules.specs.Scopes.{Scope}
 use Rattle.gn_rules.specs.Things.{socket_names}
-use Rattle.gn_scopes.specs.Nodes.{kind_in, settings_in}
+use Rattle.gn_tree.specs.Nodes.{kind_in, settings_in}
 use Rattle.gn_meaning.specs.Sites.{Way, at_output, nowhere, Read, plain_read}
 use Rattle.gn_meaning.specs.Bodies.{Body, body_at}
 use Rattle.gn_meaning.specs.Reads.{Part, a_node, a_group, a_repeat, part_in, part_at, passed, number_in, read_from}

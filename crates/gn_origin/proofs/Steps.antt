@@ -4,8 +4,8 @@ use Rattle.std.specs.Prelude.{Bool, true, false}
 use Rattle.gn_tree.specs.Trees.{Node, node, Tree}
 use Rattle.gn_rules.specs.Sockets.{is_zone}
 use Rattle.gn_rules.specs.Scopes.{Scope}
-use Rattle.gn_scopes.specs.Nodes.{settings_in, inputs_in}
-use Rattle.gn_scopes.specs.Nodes as code
+use Rattle.gn_tree.specs.Nodes.{settings_in, inputs_in}
+use Rattle.gn_tree.specs.Nodes as code
 use Rattle.gn_meaning.specs.Sites as sites
 use Rattle.gn_meaning.specs.Sites.{Way, into, plain_step, path_of, at_output, at_input, at_constant, zero_at, Read, plain_read}
 use Rattle.gn_meaning.specs.Bodies.{body_in, kind_in}

@@ -10,7 +10,7 @@ use Rattle.gn_rules.specs.Scopes.{Scope}
 use Rattle.gn_rules.specs.Rules.{KeepsRules}
 use Rattle.gn_rules.specs.Things.{a_node, the_inputs}
 use Rattle.gn_pointers.specs.Pointers.{key}
-use Rattle.gn_scopes.specs.Nodes.{kind_in, settings_in, inputs_in}
+use Rattle.gn_tree.specs.Nodes.{kind_in, settings_in, inputs_in}
 use Rattle.gn_meaning.specs.Sites.{Way, the_tree, into, plain_step, at_output, at_input, zero_at, nowhere, Read, plain_read}
 use Rattle.gn_meaning.specs.Bodies.{Body, tree_body, group_body, body_in, body_of, body_at}
 use Rattle.gn_meaning.specs.Reads.{default_of, reads_of, node_reads, given_out, read_at, a_group, part_in, part_at, out_of}

@@ -128,7 +128,7 @@ pub record NamesRead (t : Tree) (fs : Frames) (s : Scope) (inputs : List Named) 
 abbrev pub IsMoveOf : Tree → Frames → ℕ → Node → Run → Type 0
 IsMoveOf t fs n x run = IsMove t (way_of fs) n x × (part_at t (way_of fs) n ≡ Some (a_node run))
 
--- the origins of its inputs are found in so many steps
+-- the origins of its inputs are found in at most that many steps
 abbrev pub AreFoundBelow : Tree → ℕ → Run → Type 0
 AreFoundBelow t n run = (i : ℕ) → i < 4 → IsFoundBelow t n (read_at run.reads i).from
 

@@ -4,7 +4,7 @@ use Rattle.gn_kinds.specs.Row.{Text}
 use Rattle.gn_tree.specs.Trees.{Node, Group, Socket, Settings}
 use Rattle.gn_tree.specs.Seen.{group_of}
 use Rattle.gn_rules.specs.Scopes.{Scope}
-use Rattle.gn_scopes.specs.Nodes.{kind_in, settings_in}
+use Rattle.gn_tree.specs.Nodes.{kind_in, settings_in}
 use Rattle.gn_meaning.specs.Sites.{Way}
 use Rattle.gn_meaning.specs.Forms.{SettingsHaveForm}
 use Rattle.gn_meaning.specs.Bodies.{Body, group_body, body_in}

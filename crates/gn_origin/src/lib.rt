@@ -12,8 +12,6 @@ mod list;
 mod plans;
 mod read;
 mod sockets;
-#[cfg(test)]
-mod tests;
 mod walk;
 
 pub use plans::find_plan;

@@ -1,7 +1,7 @@
 ghost use Rattle.std.specs.Prelude.{◌≡◌, IfOk, bytes_eq, find, map, option_map};
 ghost use Rattle.gn_tree.specs.Seen.{input_of, link_of, named_of, nodes_of, settings_of};
 ghost use Rattle.gn_rules.specs.Sockets as named;
-ghost use Rattle.gn_scopes.specs.Nodes.{kind_in, settings_in, inputs_in};
+ghost use Rattle.gn_tree.specs.Nodes.{kind_in, settings_in, inputs_in};
 
 use crate::groups::{GroupList, Lists};
 use crate::read::{Constant, Read, Site, passed, plain, zero};
@@ -41,37 +41,12 @@ pub(crate) enum Inside<'s, 't> {
     Zone,
 }
 
-pub(crate) fn id_of(node: &Node) -> &str
-    ensures { result.now ≡ named.id_of node.now }
-{
-    node.id.as_str()
-}
-
-fn kind_of(node: &Node) -> &str
-    ensures { result.now ≡ kind_in node.now }
-{
-    node.kind.as_str()
-}
-
-fn settings_of(node: &Node) -> &[Setting]
-    ensures { settings_of result.now ≡ settings_in node.now }
-{
-    node.settings.as_slice()
-}
-
-/// What is written to the inputs of a node.
-pub(crate) fn inputs_of(node: &Node) -> &[(String, TreeInput)]
-    ensures { map named_of result.now ≡ inputs_in node.now }
-{
-    node.inputs.as_slice()
-}
-
 pub(crate) fn ids_of<'t>(alloc: Global, nodes: &'t [Node]) -> Result<Vec<&'t str>, Memory>
     ensures { IfOk result (λ texts. map (λ text. text.now) texts.items ≡ named.ids (nodes_of nodes.now)) }
 {
     let mut ids = Vec::with_capacity(alloc, nodes.len())?;
     for node in nodes {
-        ids.push(id_of(node))?;
+        ids.push(node.id())?;
     }
     Ok(ids)
 }
@@ -129,16 +104,16 @@ impl<'s, 't> List<'s, 't> {
     pub(crate) fn part(self, node: &Node) -> Part<'s, 't>
         ensures { HasGroups self.entry.lists.now → (above : ℕ) → NodeHasForm node.now → IsPart (scope_of self.entry above) node.now result }
     {
-        match self.inside(settings_of(node)) {
+        match self.inside(node.settings()) {
             Inside::Group(group) => {
-                if kind_of(node) == "group" {
+                if node.kind() == "group" {
                     return Part::Group(group);
                 }
                 Part::Other
             }
             Inside::Zone => Part::Other,
             Inside::Nothing => {
-                if kind_of(node) == "set_position" {
+                if node.kind() == "set_position" {
                     return Part::SetPosition;
                 }
                 Part::Other

@@ -1,7 +1,7 @@
 ghost use Rattle.std.specs.Prelude.{◌≡◌, ◌&&◌, ◌==◌, ℕ, [], Some, IfOk, map, length, option_map, option_and_then};
 ghost use Rattle.gn_tree.specs.Seen.{socket_of, tree_of};
 ghost use Rattle.gn_check.specs.Answers.{tree_in};
-ghost use Rattle.gn_scopes.specs.Nodes.{inputs_in};
+ghost use Rattle.gn_tree.specs.Nodes.{inputs_in};
 ghost use Rattle.gn_meaning.specs.Sites as sites;
 ghost use Rattle.gn_meaning.specs.Reads.{kind_number, Run};
 ghost use Rattle.gn_meaning.specs.Demand.{output_read};
@@ -16,7 +16,7 @@ ghost use Rattle.gn_origin.specs.Moves as moves;
 ghost use Rattle.gn_origin.specs.Moves.{EndsAt, Limits, IsReady, AreRead, NamesRead, AreFoundBelow, IsBounded, IsMoveOf, ConstantsAre, MovesAs, carried_by, carried_of, truth_in, vector_in, position_by, input_at};
 
 use crate::groups::Lists;
-use crate::list::{List, inputs_of};
+use crate::list::List;
 use crate::read::{Constant, Read, Site, plain, zero};
 use crate::walk::{Frame, Walk, follow};
 use gn_check::GoodTree;
@@ -56,7 +56,7 @@ fn value_through(value: Value, conversions: VecDeque<SocketKind>) -> Value
     value
 }
 
-/// A constant, after so many conversions.
+/// A constant, and how many conversions it has gone through.
 #[derive(Clone, Copy)]
 struct Carried {
     value: Value,
@@ -189,7 +189,7 @@ struct Inputs<'s, 't> {
 fn inputs_read<'s, 't>(list: List<'s, 't>, node: &Node) -> Inputs<'s, 't>
     ensures { (fs : Frames) (at : IsAt list.entry fs) → NamesRead (tree_by list.entry) fs at.body.scope (inputs_in node.now) result }
 {
-    let inputs = inputs_of(node);
+    let inputs = node.inputs();
     let all = Constant::Value(Value::Truth(true));
     let none = zero(SocketKind::Vector);
     Inputs {

@@ -4,7 +4,6 @@ ghost use Rattle.gn_origin.specs.Constants.{kinds_of};
 ghost use Rattle.gn_origin.specs.Walking.{tree_by, read_by, IsFoundBelow, Stands, Ends};
 
 use crate::groups::{GroupList, Lists};
-use crate::list::inputs_of;
 use crate::read::{Read, Site};
 use gn_kinds::SocketKind;
 use gn_memory::Memory;
@@ -124,7 +123,7 @@ impl<'s, 't> Walk<'s, 't> {
             return Ok(Progress::Arrived);
         };
         let list = self.lists.at_end(&self.frames);
-        self.go_on(list.socket_read(inputs_of(frame.node), socket))
+        self.go_on(list.socket_read(frame.node.inputs(), socket))
     }
 
     fn step(&mut self) -> Result<Progress, Memory>

@@ -1,7 +1,8 @@
 -- What fields give in contexts, by computation.
 use Rattle.std.proofs.Common.{◌≡◌, ℕ, List, [], ◌∷◌, None, map, true, false, pos, negsuc, ◌*◌, ◌^◌, ◌-◌, codes, refl}
 use Rattle.gn_value.specs.Values.{fx, v3, zero_of, exact_length, converted}
-use Rattle.gn_value.specs.Arithmetic.{exact_product, isqrt_of, greatest}
+use Rattle.gn_root.specs.Roots.{greatest, root}
+use Rattle.gn_value.specs.Arithmetic.{exact_product}
 use Rattle.gn_value.specs.Rows.{row, compare_row}
 use Rattle.gn_value.specs.Operations.{gives}
 use Rattle.gn_value.specs.declared.value.Value.{Value}
@@ -59,12 +60,12 @@ abbrev around_three : List geometry.Corner
 around_three = corner 0 0 ∷ corner 1 1 ∷ corner 2 2 ∷ []
 
 normals : read Face normal 0 ∷ read Point normal 2 ∷ read Cloud normal 0 ∷ [] ≡ vector (at_units 0 0 1) ∷ vector (at_units 0 0 1) ∷ zero_of Vector ∷ []
-unfolding exact_product exact_length isqrt_of greatest
+unfolding exact_product exact_length root greatest
 normals = refl
 
 -- faces in the two other planes
 across_a_face : normal_of (at_units 0 0 0 ∷ at_units 0 1 0 ∷ at_units 0 0 1 ∷ []) around_three ∷ normal_of (at_units 0 0 0 ∷ at_units 0 0 1 ∷ at_units 1 0 0 ∷ []) around_three ∷ [] ≡ at_units 1 0 0 ∷ at_units 0 1 0 ∷ []
-unfolding exact_product exact_length isqrt_of greatest
+unfolding exact_product exact_length root greatest
 across_a_face = refl
 
 -- on a face the means of 0, 1, 0 and of 1, 2, 2

@@ -1,3 +1,4 @@
+use gn_memory::Memory;
 use thiserror::Error;
 
 /// Why a text is no well-formed tree.
@@ -13,4 +14,15 @@ pub enum TreeFault {
     /// There was no memory.
     #[error("out of memory")]
     Memory,
+}
+
+impl From<Memory> for TreeFault {
+    ghost use Rattle.std.specs.Prelude.{◌≡◌};
+    ghost use Rattle.gn_read.specs.declared.fault.TreeFault.TheVariants.{Memory};
+
+    ghost from_gives = { λ _ fault. fault ≡ Memory };
+
+    fn from(_: Memory) -> Self {
+        TreeFault::Memory
+    }
 }

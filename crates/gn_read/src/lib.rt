@@ -11,6 +11,3 @@ mod reading;
 
 pub use fault::TreeFault;
 pub use reading::read_tree;
-
-#[cfg(test)]
-mod tests;

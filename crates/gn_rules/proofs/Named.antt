@@ -3,6 +3,7 @@ use Rattle.std.proofs.Common.{◌≡◌, ℕ, suc, ◌<◌, ◌==◌, Bool, true
 use Rattle.gn_pointers.specs.Pointers.{Pointer, IsFirst, IsBadAt, Holds, part_at}
 use Rattle.gn_pointers.proofs.First.{first_same}
 use Rattle.gn_tree.specs.Trees.{Tree}
+use Rattle.gn_tree.specs.Nodes.{id_in}
 use Rattle.gn_tree.specs.Rising.{NamesRiseInTree}
 use Rattle.gn_cycle.specs.Ways.{is_on_cycle}
 use Rattle.gn_cycle.proofs.Ways.{tells_cycle}
@@ -10,7 +11,7 @@ use Rattle.gn_rules.specs.declared.rule.Rule.{Rule}
 use Rattle.gn_rules.specs.declared.rule.Rule.TheVariants as rule
 use Rattle.gn_rules.specs.declared.sought.Sought.TheVariants.{Any, Only}
 use Rattle.gn_rules.specs.Sought.{has}
-use Rattle.gn_rules.specs.Sockets.{group_names, id_of, ids}
+use Rattle.gn_rules.specs.Sockets.{group_names, ids}
 use Rattle.gn_rules.specs.Scopes.{source, is_above}
 use Rattle.std.specs.Option.{option_map_or}
 use Rattle.gn_rules.specs.Number.{number_of}
@@ -164,7 +165,7 @@ any_of_three false false q b r c h = any_of_two q b r c h
 any_breaks : (r : Rule) (x : Thing) → IsTrue (breaks (Only r) x) → IsTrue (breaks Any x)
 any_breaks r (a_group gs i g) b = second (has (Only r) rule.Names) (is_taken (group_names gs) i g.name) b
 any_breaks r (a_socket names i name) b = second (has (Only r) rule.Names) (is_taken names i name) b
-any_breaks r (a_node s i n) b = any_of_three (has (Only r) rule.Names) (is_taken (ids s.nodes) i (id_of n)) (has (Only r) rule.Height) (is_too_high s n) (has (Only r) rule.Order) (is_on_cycle (graph_of s.nodes) i) b
+any_breaks r (a_node s i n) b = any_of_three (has (Only r) rule.Names) (is_taken (ids s.nodes) i (id_in n)) (has (Only r) rule.Height) (is_too_high s n) (has (Only r) rule.Order) (is_on_cycle (graph_of s.nodes) i) b
 any_breaks r (a_group_name s name) b = second (has (Only r) rule.Links) (not (is_above s name)) b
 any_breaks r (an_input s shape x) b = any_of_two (has (Only r) rule.Links) (is_none shape || is_loose s x) (has (Only r) rule.Kinds) (option_map_or (λ there. is_unfit s there x) shape false) b
 any_breaks r (a_link s l) b = second (has (Only r) rule.Links) (is_none (source s l)) b

@@ -10,12 +10,13 @@ use Rattle.gn_kinds.specs.Row.{Text}
 use Rattle.gn_names.specs.First.{first_of}
 use Rattle.gn_pointers.specs.Pointers.{Pointer, IsBadAt, IsFirst}
 use Rattle.gn_tree.specs.Trees.{Link, Input, constant, link, links, Named, Node, node, Nodes, no_nodes, and_node, Tree}
+use Rattle.gn_tree.specs.Nodes.{id_in}
 use Rattle.gn_cycle.specs.Graph.{Graph, Leads}
 use Rattle.gn_rules.specs.declared.rule.Rule.{Rule}
 use Rattle.gn_rules.specs.declared.rule.Rule.TheVariants as rule
 use Rattle.gn_rules.specs.Number.{number_of}
 use Rattle.gn_rules.specs.declared.shape.Shape.{Shape}
-use Rattle.gn_rules.specs.Sockets.{is_zone, group_names, id_of, ids}
+use Rattle.gn_rules.specs.Sockets.{is_zone, group_names, ids}
 use Rattle.gn_rules.specs.Scopes.{Scope, source, is_above}
 use Rattle.gn_rules.specs.Things.{Thing, the_tree, a_group, a_socket, all_nodes, a_node, a_group_name, an_input, a_link, parts}
 use Rattle.gn_rules.specs.Measures.{height, heights, counts, known_above}
@@ -35,7 +36,7 @@ is_taken names i name = is_reserved name || is_earlier names i name
 abbrev pub breaks_names : Thing → Bool
 breaks_names (a_group gs i g) = is_taken (group_names gs) i g.name
 breaks_names (a_socket names i name) = is_taken names i name
-breaks_names (a_node s i n) = is_taken (ids s.nodes) i (id_of n)
+breaks_names (a_node s i n) = is_taken (ids s.nodes) i (id_in n)
 breaks_names _ = false
 
 -- ---- F3: a link leads from nothing, a group is not one above, or a key names no socket

@@ -11,6 +11,7 @@ use Rattle.gn_kinds.specs.Table.{row_of_kind}
 use Rattle.gn_names.specs.First.{first_of}
 use Rattle.gn_rules.specs.declared.shape.Shape.{Shape}
 use Rattle.gn_tree.specs.Trees.{Socket, Node, node, Settings, no_settings, and_setting, and_zone, Nodes, no_nodes, and_node, Group, of_kind, of_group}
+use Rattle.gn_tree.specs.Nodes.{id_in}
 
 -- a socket of that name
 pub record Declared : Type 0 where
@@ -91,12 +92,9 @@ group_names gs = map (λ g. g.name) gs
 abbrev pub group_named : List Group → Text → Option Group
 group_named gs name = option_and_then (λ i. slice_get gs i) (first_of (group_names gs) name)
 
-abbrev pub id_of : Node → Text
-id_of (node id _ _ _) = id
-
 abbrev pub ids : Nodes → List Text
 ids no_nodes = []
-ids (and_node n ns) = id_of n ∷ ids ns
+ids (and_node n ns) = id_in n ∷ ids ns
 
 abbrev pub node_at : Nodes → ℕ → Option Node
 node_at no_nodes i = None

@@ -6,6 +6,7 @@ use Rattle.gn_kinds.specs.declared.row.SocketKind.TheVariants.{Geometry}
 use Rattle.gn_kinds.specs.Row.{Text}
 use Rattle.gn_pointers.specs.Pointers.{index, key, Pointer, joined}
 use Rattle.gn_tree.specs.Trees.{Socket, Link, Input, constant, link, links, Named, Node, node, Settings, no_settings, and_setting, and_zone, Nodes, no_nodes, and_node, Group, Tree, of_group}
+use Rattle.gn_tree.specs.Nodes.{id_in}
 use Rattle.gn_cycle.specs.Ways.{is_on_cycle}
 use Rattle.gn_rules.specs.declared.rule.Rule.{Rule}
 use Rattle.gn_rules.specs.declared.rule.Rule.TheVariants as rule
@@ -13,7 +14,7 @@ use Rattle.gn_rules.specs.declared.sought.Sought.{Sought}
 use Rattle.gn_rules.specs.declared.sought.Sought.TheVariants.{Any, Only}
 use Rattle.gn_rules.specs.Sought.{has}
 use Rattle.gn_rules.specs.declared.shape.Shape.{Shape}
-use Rattle.gn_rules.specs.Sockets.{Declared, single, one_of, declared, group_names, ids, id_of, inputs_of}
+use Rattle.gn_rules.specs.Sockets.{Declared, single, one_of, declared, group_names, ids, inputs_of}
 use Rattle.gn_rules.specs.Scopes.{Scope, source, is_above, tree_scope, group_scope, zone_scope}
 use Rattle.gn_rules.specs.Things.{Thing, the_tree, the_groups, a_group, the_sockets, a_socket, all_nodes, the_nodes, a_node, the_settings, a_group_name, the_inputs, an_input, a_link, socket_names}
 use Rattle.gn_rules.specs.Rules.{is_taken, is_loose, is_unfit, graph_of, is_too_high, node_count, IsNamed, KeepsRules}
@@ -24,7 +25,7 @@ abbrev pub breaks_name : Sought → List Text → ℕ → Text → Bool
 breaks_name w names i name = has w rule.Names && is_taken names i name
 
 abbrev pub breaks_node : Sought → Scope → ℕ → Node → Bool
-breaks_node w s i n = (has w rule.Names && is_taken (ids s.nodes) i (id_of n)) || ((has w rule.Height && is_too_high s n) || (has w rule.Order && is_on_cycle (graph_of s.nodes) i))
+breaks_node w s i n = (has w rule.Names && is_taken (ids s.nodes) i (id_in n)) || ((has w rule.Height && is_too_high s n) || (has w rule.Order && is_on_cycle (graph_of s.nodes) i))
 
 abbrev pub breaks_group_name : Sought → Scope → Text → Bool
 breaks_group_name w s name = has w rule.Links && not (is_above s name)

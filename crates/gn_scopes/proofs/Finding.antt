@@ -9,7 +9,7 @@ use Rattle.std.specs.Option.{option_or}
 use Rattle.gn_kinds.specs.Row.{Text}
 use Rattle.gn_names.specs.First.{first_of}
 use Rattle.gn_tree.specs.Trees.{Socket, Node, node, Group}
-use Rattle.gn_scopes.specs.Nodes.{kind_in, settings_in}
+use Rattle.gn_tree.specs.Nodes.{kind_in, settings_in}
 use Rattle.gn_rules.specs.Sockets.{Declared, single, one_of, declared, chosen, further, inputs_of, outputs_of, inputs_of_kind, outputs_of_kind, input_of_row, output_of_row}
 use Rattle.gn_rules.specs.Things.{socket_names}
 

@@ -8,7 +8,7 @@ use Rattle.gn_kinds.specs.Row.{Text}
 use Rattle.gn_names.specs.First.{first_of}
 use Rattle.gn_tree.specs.Trees.{Link, Node, node, Nodes, and_node}
 use Rattle.gn_rules.specs.Rules.{graph_from, links_of, links_of_input, numbers_of}
-use Rattle.gn_scopes.specs.Nodes.{inputs_in}
+use Rattle.gn_tree.specs.Nodes.{inputs_in}
 
 then_at : (names : List Text) (o : Option ℕ) (more : List ℕ) → option_map_or (λ i. i ∷ more) o more ≡ option_map_or (λ i. i ∷ []) o [] ++ more
 then_at names None more = refl

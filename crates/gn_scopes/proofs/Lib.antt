@@ -1,4 +1,5 @@
 pub mod Looking
+pub mod Naming
 pub mod Finding
 pub mod Grouping
 pub mod Leading

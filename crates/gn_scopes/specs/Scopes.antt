@@ -10,7 +10,7 @@ use Rattle.gn_rules.specs.Sought.{has}
 use Rattle.gn_rules.specs.Sockets.{Declared, one_of, input_of_row, items_in}
 use Rattle.gn_rules.specs.Scopes.{tree_entries, zone_entries}
 use Rattle.gn_rules.specs.Rules.{graph_of}
-use Rattle.gn_scopes.specs.Nodes.{settings_in}
+use Rattle.gn_tree.specs.Nodes.{settings_in}
 use Rattle.gn_scopes.specs.declared.scope.Entries.{Entries}
 use Rattle.gn_scopes.specs.declared.scope.Entries.TheVariants as e
 use Rattle.gn_scopes.specs.declared.scope.Inputs.{Inputs}

@@ -2,7 +2,7 @@ ghost use Rattle.std.specs.Prelude.{◌≡◌, ◌++◌, ◌∷◌, [], OnOk, If
 ghost use Rattle.gn_cycle.specs.Graph.{lists};
 ghost use Rattle.gn_tree.specs.Seen.{input_of, link_of, named_of, nodes_of};
 ghost use Rattle.gn_rules.specs.Rules.{graph_from, links_of, links_of_input, numbers_of};
-ghost use Rattle.gn_scopes.specs.Nodes.{inputs_in};
+ghost use Rattle.gn_tree.specs.Nodes.{inputs_in};
 
 use gn_memory::Memory;
 use gn_names::Names;

@@ -11,13 +11,11 @@
 
 mod edges;
 mod groups;
-mod node;
 mod scope;
 mod setting;
 mod sockets;
 
 pub use groups::Groups;
-pub use node::{id_of, inputs_of, settings_of};
 pub use scope::{Entries, Inputs, Scope};
 pub use setting::{group_set, is_zone, zone_set};
 pub use sockets::{Sockets, single};

@@ -8,13 +8,12 @@ ghost use Rattle.gn_rules.specs.Rules.{graph_of};
 ghost use Rattle.gn_rules.specs.Sought.{has};
 ghost use Rattle.gn_rules.specs.declared.rule.Rule.TheVariants as rule;
 ghost use Rattle.gn_scopes.specs.Groups.{lists_in, side_of, sockets_in};
-ghost use Rattle.gn_scopes.specs.Nodes.{settings_in};
+ghost use Rattle.gn_tree.specs.Nodes.{settings_in};
 ghost use Rattle.gn_scopes.specs.Scopes as spec;
 ghost use Rattle.gn_scopes.specs.Scopes.{entries_of, declared_by, items_of_node};
 
 use crate::edges::edges_of;
 use crate::groups::{Groups, Side};
-use crate::node::{id_of, kind_of, settings_of};
 use crate::setting::{chosen, group_in, items_in};
 use crate::sockets::{Sockets, find_input, find_output, input_rows, single};
 use gn_cycle::Graph;
@@ -71,7 +70,7 @@ fn ids_of(alloc: Global, nodes: &[Node]) -> Result<Vec<&str>, Memory>
 {
     let mut texts = Vec::with_capacity(alloc, nodes.len())?;
     for node in nodes {
-        texts.push(id_of(node))?;
+        texts.push(node.id())?;
     }
     Ok(texts)
 }
@@ -79,7 +78,7 @@ fn ids_of(alloc: Global, nodes: &[Node]) -> Result<Vec<&str>, Memory>
 fn items_of(alloc: Global, node: &Node) -> Result<Sockets<'_>, Memory>
     ensures { IfOk result (λ sockets. sockets_in sockets ≡ items_of_node node.now) }
 {
-    Sockets::new(alloc, items_in(settings_of(node)))
+    Sockets::new(alloc, items_in(node.settings()))
 }
 
 fn all_items(alloc: Global, nodes: &[Node]) -> Result<Vec<Sockets<'_>>, Memory>
@@ -190,8 +189,8 @@ impl<'s, 't> Scope<'s, 't> {
         requires { slice_get self.now.nodes.now.items number ≡ Some node.now }
         ensures { result ≡ named.declared (named.outputs_of (groups_in self.now.groups.now) node.now) name.now }
     {
-        let settings = settings_of(node);
-        match find_output(kind_of(node), chosen(settings), name) {
+        let settings = node.settings();
+        match find_output(node.kind(), chosen(settings), name) {
             Some(shape) => Some(shape),
             None => self.further(Side::Outputs, number, settings).find(name),
         }
@@ -227,9 +226,9 @@ impl<'s, 't> Scope<'s, 't> {
         requires { slice_get self.now.nodes.now.items number ≡ Some node.now }
         ensures { declared_by result ≡ named.inputs_of (groups_in self.now.groups.now) node.now }
     {
-        let settings = settings_of(node);
+        let settings = node.settings();
         Inputs {
-            rows: input_rows(kind_of(node)),
+            rows: input_rows(node.kind()),
             chosen: chosen(settings),
             others: self.further(Side::Inputs, number, settings),
         }

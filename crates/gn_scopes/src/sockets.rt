@@ -31,18 +31,6 @@ fn of_values(kind: ValueKind) -> SocketKind
     }
 }
 
-fn input_name(row: InputRow) -> &'static str
-    ensures { (chosen : SocketKind) → result.now ≡ (rule.input_of_row chosen (seen.input_of row)).name }
-{
-    match row {
-        InputRow::Field(name, _, _) => name,
-        InputRow::Single(name, _, _) => name,
-        InputRow::Geometry(name) => name,
-        InputRow::Geometries(name) => name,
-        InputRow::Chosen(name, _) => name,
-    }
-}
-
 /// What an input takes, where the setting `type` names the kind.
 fn input_shape(row: InputRow, chosen: SocketKind) -> Shape
     ensures { result ≡ (rule.input_of_row chosen (seen.input_of row)).shape }
@@ -56,16 +44,6 @@ fn input_shape(row: InputRow, chosen: SocketKind) -> Shape
             many: true,
         },
         InputRow::Chosen(_, _) => single(chosen),
-    }
-}
-
-fn output_name(row: OutputRow) -> &'static str
-    ensures { (chosen : SocketKind) → result.now ≡ (rule.output_of_row chosen (seen.output_of row)).name }
-{
-    match row {
-        OutputRow::Field(name, _) => name,
-        OutputRow::Geometry(name) => name,
-        OutputRow::Chosen(name) => name,
     }
 }
 
@@ -108,7 +86,7 @@ pub(crate) fn find_input(
     ensures { result ≡ rule.declared (map (rule.input_of_row chosen) (map seen.input_of inputs.now)) name.now }
 {
     for row in inputs {
-        if name == input_name(*row) {
+        if name == row.name() {
             return Some(input_shape(*row, chosen));
         }
     }
@@ -121,7 +99,7 @@ pub(crate) fn find_output(kind: &str, chosen: SocketKind, name: &str) -> Option<
 {
     let outputs = output_rows(kind);
     for row in outputs {
-        if name == output_name(*row) {
+        if name == row.name() {
             return Some(output_shape(*row, chosen));
         }
     }

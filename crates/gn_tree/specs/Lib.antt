@@ -1,4 +1,5 @@
 pub mod Trees
+pub mod Nodes
 pub mod NodeKinds
 pub mod Rising
 pub mod Form

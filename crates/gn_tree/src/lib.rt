@@ -8,6 +8,7 @@
 #![tactic(auto)]
 
 mod kind;
+mod node;
 mod tree;
 
 pub use gn_kinds::SocketKind;

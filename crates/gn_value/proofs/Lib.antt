@@ -1,5 +1,4 @@
 pub mod Bounded
 pub mod Division
 pub mod Modulo
-pub mod Roots
 pub mod Worked

@@ -1,5 +1,6 @@
 use Rattle.std.proofs.Common.{◌≡◌, refl, ◌^◌, ◌*◌, ◌-◌, [], ◌∷◌, map, true, false, ℤ, pos, negsuc, neg_ℤ, ◌*ℤ◌}
-use Rattle.gn_value.specs.Arithmetic.{one, sum_of, product_of, quotient_of, modulo_of, magnitude_of, ceil_of, greatest, isqrt_of, exact_product, total_by, mean_of, sat, folded, mixed}
+use Rattle.gn_root.specs.Roots.{greatest, root}
+use Rattle.gn_value.specs.Arithmetic.{one, sum_of, product_of, quotient_of, modulo_of, magnitude_of, ceil_of, exact_product, total_by, mean_of, sat, folded, mixed}
 use Rattle.gn_value.specs.Values.{fx, v3, exact_length, normalized, converted}
 use Rattle.gn_value.specs.Rows.{math_row, integer_row, vector_row, boolean_row, compare_row, clamp_row, unit_part, range_part, between, map_range_row, mix_row, round_row, random_fixed, random_int, random_truth, chosen, row}
 use Rattle.gn_value.specs.declared.value.Value.TheVariants.{Truth as truth, Int as int, Fixed as fixed, Vector as vector}
@@ -36,10 +37,6 @@ at_least : (magnitude_of least ∷ product_of least (neg_ℤ one) ∷ quotient_o
 unfolding exact_product
 at_least = refl
 
-roots : (isqrt_of 0 ∷ isqrt_of 15 ∷ isqrt_of 16 ∷ isqrt_of (2 ^ 128 - 1) ∷ []) ≡ (0 ∷ 3 ∷ 4 ∷ (2 ^ 64 - 1) ∷ [])
-unfolding isqrt_of greatest
-roots = refl
-
 -- the first two numbers of SplitMix64 from seed 0
 mixes : (mixed 0 ∷ mixed 0x9E3779B97F4A7C15 ∷ mixed 0x3C6EF372FE94F82A ∷ []) ≡ (0 ∷ 16294208416658607535 ∷ 7960286522194355700 ∷ [])
 unfolding mixed folded
@@ -63,7 +60,7 @@ unfolding math_row exact_product
 math = refl
 
 square_root : math_row m.Sqrt (quarters (pos 9)) (pos 0) ≡ quarters (pos 6)
-unfolding math_row isqrt_of greatest
+unfolding math_row root greatest
 square_root = refl
 
 -- of -7 and 2, of the least integer and -1, and by 0
@@ -97,17 +94,17 @@ vectors : map (λ op. vector_row op (v3 (quarters (pos 12)) (pos 0) (quarters (n
     ∷ fixed (fx (quarters (pos 12)))
     ∷ fixed (fx (quarters (pos 20)))
     ∷ [])
-unfolding vector_row exact_product exact_length isqrt_of greatest
+unfolding vector_row exact_product exact_length root greatest
 vectors = refl
 
 -- 3 / 5 and -4 / 5 rounded down, the zero vector, and the distance from (3, 0, -4) to 0
 lengths : (normalized (v3 (quarters (pos 12)) (pos 0) (quarters (negsuc 15))) ∷ normalized (v3 (pos 0) (pos 0) (pos 0)) ∷ [])
     ≡ (v3 (pos 2576980377) (pos 0) (negsuc 3435973836) ∷ v3 (pos 0) (pos 0) (pos 0) ∷ [])
-unfolding exact_length isqrt_of greatest
+unfolding exact_length root greatest
 lengths = refl
 
 distance : vector_row v.Distance (v3 (quarters (pos 12)) (pos 0) (quarters (negsuc 15))) (v3 (pos 0) (pos 0) (pos 0)) (pos 0) ≡ fixed (fx (quarters (pos 20)))
-unfolding vector_row exact_length isqrt_of greatest
+unfolding vector_row exact_length root greatest
 distance = refl
 
 truths : map (λ op. boolean_row op true false) (b.And ∷ b.Or ∷ b.Xor ∷ b.Nand ∷ b.Nor ∷ b.Not ∷ []) ≡ (false ∷ true ∷ true ∷ true ∷ false ∷ false ∷ [])

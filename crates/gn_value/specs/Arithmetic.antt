@@ -1,5 +1,6 @@
 use Rattle.std.specs.Prelude.{◌≤◌, ◌<◌, ◌*◌, ◌+◌, ◌^◌, ℕ, zero, suc, Bool, ℤ, pos, ◌+ℤ◌, ◌-ℤ◌, ◌*ℤ◌, neg_ℤ, int_lt, nat_le, unsigned_abs, if◌then◌else◌, List, fold, bit_xor, ◌/◌, ◌%◌}
 use Rattle.std.specs.Int.{saturate_signed, w32, w64, int_div_euclid}
+use Rattle.gn_root.specs.Roots.{root}
 
 -- Numbers here are whole and have no bounds. A fixed number goes by its raw number, which is
 -- 2 ^ 32 times what it stands for.
@@ -60,23 +61,9 @@ magnitude_of a = sat (pos (unsigned_abs a))
 abbrev pub square : ℤ → ℕ
 square a = unsigned_abs a * unsigned_abs a
 
--- r is the greatest number whose square is at most n
-pub record IsRoot (n r : ℕ) : Type 0 where
-  pub square_fits : r * r ≤ n
-  pub next_does_not : n < (r + 1) * (r + 1)
-
--- the greatest number from base on and below base + 2 ^ bits that passes a test, where what passes
--- is all up to some number; base where no more pass
-unfoldable pub greatest : ℕ → (ℕ → Bool) → ℕ → ℕ
-greatest zero passes base = base
-greatest (suc bits) passes base = greatest bits passes (if passes (base + 2 ^ bits) then base + 2 ^ bits else base)
-
--- the square root of a number below 2 ^ 128, rounded down
-unfoldable pub isqrt_of : ℕ → ℕ
-isqrt_of n = greatest 64 (λ r. nat_le (r * r) n) 0
-
+-- the square root, rounded down; 0 for what is below 0
 abbrev pub root_of : ℤ → ℤ
-root_of a = if int_lt a (pos 0) then pos 0 else pos (isqrt_of (unsigned_abs a * 2 ^ 32))
+root_of a = if int_lt a (pos 0) then pos 0 else pos (root (unsigned_abs a * 2 ^ 32))
 
 -- the exact sum of what f gives of each member
 abbrev pub total_by : {A : Type 0} → (A → ℤ) → List A → ℤ

@@ -1,6 +1,7 @@
 use Rattle.std.specs.Prelude.{◌+◌, ℕ, Bool, false, not, ◌&&◌, ℤ, pos, ◌+ℤ◌, ◌-ℤ◌, ◌*ℤ◌, int_lt, int_div, if◌then◌else◌}
 use Rattle.std.specs.Ordering.{int_eq}
-use Rattle.gn_value.specs.Arithmetic.{one, sat, floor_div, exact_product, isqrt_of, mean_of, raw_truth, square}
+use Rattle.gn_root.specs.Roots.{root}
+use Rattle.gn_value.specs.Arithmetic.{one, sat, floor_div, exact_product, mean_of, raw_truth, square}
 use Rattle.gn_value.specs.declared.fixed.Fx.{Fx}
 use Rattle.gn_value.specs.declared.vector.V3.{V3}
 use Rattle.gn_value.specs.declared.value.Value.{Value}
@@ -44,7 +45,7 @@ cross_of a b = v3 (crossed a.y.0 b.z.0 a.z.0 b.y.0) (crossed a.z.0 b.x.0 a.x.0 b
 
 -- the length as a raw number without bounds
 unfoldable pub exact_length : V3 → ℕ
-exact_length a = isqrt_of (square a.x.0 + square a.y.0 + square a.z.0)
+exact_length a = root (square a.x.0 + square a.y.0 + square a.z.0)
 
 abbrev pub length_of : V3 → ℤ
 length_of a = sat (pos (exact_length a))

@@ -3,7 +3,8 @@ ghost use Rattle.std.specs.Int.{int_div_euclid, int_max, int_min, int_rem_euclid
 ghost use Rattle.gn_value.specs.Arithmetic.{ceil_of, difference_of, exact_product, floor_of, magnitude_of, modulo_of, one, product_of, quotient_of, raw_truth, root_of, sat, sum_of};
 ghost use Rattle.gn_value.specs.Values.{fx};
 
-use crate::whole::{divide_down, fraction_of, isqrt, modulo_i64, saturate_i64, scale_down};
+use crate::whole::{divide_down, fraction_of, modulo_i64, saturate_i64, scale_down};
+use gn_root::isqrt;
 
 /// A fixed number: the raw number divided by 2^32.
 #[derive(Clone, Copy, Debug, PartialEq, Eq, PartialOrd, Ord, Hash)]

@@ -4,7 +4,8 @@ ghost use Rattle.gn_value.specs.Arithmetic.{difference_of, exact_product, floor_
 ghost use Rattle.gn_value.specs.Values.{by_component, component_mean, cross_of, crossed, dot_of, each_component, exact_dot, exact_length, fx, is_zero, length_of, normalized, v3};
 
 use crate::fixed::Fx;
-use crate::whole::{divide_down, isqrt, mean, saturate_i64, square};
+use crate::whole::{divide_down, mean, saturate_i64, square};
+use gn_root::isqrt;
 
 /// A vector of three fixed numbers.
 #[derive(Clone, Copy, Debug, PartialEq, Eq, PartialOrd, Ord, Hash)]

@@ -1,6 +1,6 @@
 //! Operations on whole numbers that the other modules share.
 ghost use Rattle.std.specs.Prelude.{◌≡◌, ◌^◌, ◌≤◌, ◌<◌, ◌*◌, ◌/◌, pos, unsigned_abs};
-ghost use Rattle.gn_value.specs.Arithmetic.{IsRoot, floor_div, isqrt_of, mean_of, modulo_of, one, sat, sat_int, square};
+ghost use Rattle.gn_value.specs.Arithmetic.{floor_div, mean_of, modulo_of, one, sat, sat_int, square};
 
 /// The number brought into the range of a raw number.
 pub fn saturate_i64(exact: i128) -> i64
@@ -123,13 +123,4 @@ pub fn modulo_i32(a: i32, b: i32) -> i32
     } else {
         0
     }
-}
-
-/// The greatest whole number whose square is at most `n`.
-#[tactic(auto, using(crate::proofs::Roots::isqrt_unique))]
-pub fn isqrt(n: u128) -> u64
-    ensures greatest { IsRoot n result }
-    ensures value { result ≡ isqrt_of n }
-{
-    n.isqrt() as u64
 }

@@ -7,7 +7,7 @@ use Rattle.gn_tree.specs.Trees.{node_size, settings_size, nodes_size, no_setting
 use Rattle.gn_tree.specs.Seen.{socket_of, named_of, nodes_of, setting_then, settings_of}
 use Rattle.gn_rules.specs.Scopes.{zone_scope}
 use Rattle.gn_rules.specs.Walk.{breaks, in_node, in_settings, first_node, in_sockets, in_given_out}
-use Rattle.gn_scopes.specs.Nodes.{settings_in}
+use Rattle.gn_tree.specs.Nodes.{settings_in}
 use Rattle.gn_scopes.specs.Seen.{scope_of}
 use Rattle.gn_check.specs.Zones.{in_inputs_of_node, in_zone}
 use Rattle.gn_measure.proofs.Within.{node_within, setting_within}
@@ -36,14 +36,14 @@ in_node-returns t c =
     let r = c.args.scope.now.sought in
     let sc = scope_of c.args.scope.now in
     let n = c.args.node.now in
-    let same : option_map pointer_of c.in_ok-found-2.found ≡ in_settings (breaks r) sc (settings_in n) = c.in_ok-found-2.ensures ∙ ap (in_settings (breaks r) sc) c.settings_of.ensures in
+    let same : option_map pointer_of c.in_ok-found-2.found ≡ in_settings (breaks r) sc (settings_in n) = c.in_ok-found-2.ensures ∙ ap (in_settings (breaks r) sc) c.settings.ensures in
     in_rest (key (codes "in")) c.in_ok-found.found (in_inputs_of_node (breaks r) sc n) (joined (key (codes "set")) (in_settings (breaks r) sc (settings_in n)) None) (in_node (breaks r) sc c.args.number n) c.at_key-2.result
     (sym c.is_some.ensures ∙ c.if-is_some.false) c.in_ok-found.ensures (node_way r sc c.args.number n c.in_ok-node_breaks.field-0 c.in_ok-node_breaks.ensures c.if-branch.false)
     (in_last (key (codes "set")) c.in_ok-found-2.found (in_settings (breaks r) sc (settings_in n)) c.at_key-2.result same c.at_key-2.ensures)
 
 pub in_node-in_settings-requires : goal.in_node-in_settings-requires
 in_node-in_settings-requires t c =
-    let same : settings_size (settings_of c.settings_of.result.now) ≡ settings_size (settings_in c.args.node.now) = ap settings_size c.settings_of.ensures in
+    let same : settings_size (settings_of c.settings.result.now) ≡ settings_size (settings_in c.args.node.now) = ap settings_size c.settings.ensures in
     (omega (arith, c.decreases, size_of_node c.args.node.now), tt)
 
 pub in_settings-in_zone-requires : goal.in_settings-in_zone-requires

@@ -1,8 +1,8 @@
 use Rattle.std.proofs.Common.{◌≡◌, ◌∙◌, Some, ap, map, refl, rules, slice_get, slice_index_or}
 use Rattle.gn_value.specs.Registers.{register_kind}
 use Rattle.gn_value.specs.Values.{converted}
-use Rattle.gn_kernel.specs.Registers.{argument}
-use Rattle.gn_kernel.proofs.Positions.{argument_kind}
+use Rattle.gn_registers.specs.Arguments.{argument}
+use Rattle.gn_registers.proofs.Positions.{argument_kind}
 use Rattle.gn_kernel.proofs.operations.convert_from.Goals as goal
 
 pub returns : goal.returns

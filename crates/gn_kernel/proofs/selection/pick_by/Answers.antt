@@ -1,5 +1,5 @@
 use Rattle.std.proofs.Common.{◌<◌, arith}
-use Rattle.gn_kernel.proofs.Positions.{argument_kind}
+use Rattle.gn_registers.proofs.Positions.{argument_kind}
 use Rattle.gn_kernel.proofs.selection.pick_by.Goals as goal
 
 pub returns : goal.returns

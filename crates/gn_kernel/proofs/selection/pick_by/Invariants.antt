@@ -1,6 +1,6 @@
 use Rattle.std.proofs.Common.{◌≡◌, ◌≤◌, ◌<◌, ℕ, slice_index_or}
 use Rattle.gn_value.specs.Rows.{choice_of}
-use Rattle.gn_kernel.specs.Registers.{picked}
+use Rattle.gn_kernel.specs.Choices.{picked}
 use Rattle.gn_kernel.proofs.selection.pick_by.Given as goal
 
 -- what was chosen at each position so far, and what still stands at the others

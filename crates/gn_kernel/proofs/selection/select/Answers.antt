@@ -3,9 +3,10 @@ use Rattle.std.specs.Ordering.{int_eq}
 use Rattle.gn_value.specs.Operations.{Takes}
 use Rattle.gn_value.specs.Registers.{register_kind}
 use Rattle.gn_value.specs.Rows.{choice_of}
-use Rattle.gn_kernel.specs.Registers.{argument, arguments}
+use Rattle.gn_registers.specs.Arguments.{argument, arguments}
 use Rattle.gn_kernel.proofs.Choices.{chosen_next, chosen_none, of_picked}
-use Rattle.gn_kernel.proofs.Positions.{argument_kind, case_kind, zero_kind}
+use Rattle.gn_registers.proofs.Positions.{argument_kind, case_kind}
+use Rattle.gn_kernel.proofs.Results.{zero_kind}
 use Rattle.gn_kernel.proofs.selection.select.Goals as goal
 
 pub loop-case-init : goal.loop-case-init

@@ -1,6 +1,6 @@
 use Rattle.std.proofs.Common.{◌≡◌, ◌<◌, ℕ, length, slice_index_or}
 use Rattle.gn_value.specs.Rows.{chosen}
-use Rattle.gn_kernel.specs.Registers.{arguments}
+use Rattle.gn_registers.specs.Arguments.{arguments}
 use Rattle.gn_kernel.proofs.selection.select.Given as goal
 
 -- the choice among the cases so far stands at each position

@@ -1,6 +1,6 @@
 use Rattle.std.proofs.Common.{codes, sym, ◌∙◌, ap, subst}
 use Rattle.std.specs.Prelude.{bytes_eq}
-use Rattle.gn_scopes.specs.Nodes.{kind_in, settings_in}
+use Rattle.gn_tree.specs.Nodes.{kind_in, settings_in}
 use Rattle.gn_origin.specs.Nodes.{Holds}
 use Rattle.gn_origin.specs.Reading.{scope_of}
 use Rattle.gn_origin.specs.declared.list.Inside.TheVariants as inside
@@ -11,26 +11,26 @@ pub returns-then-eq : goal.returns-then-eq
 returns-then-eq c has above form =
     let sc = scope_of c.args.self above in
     let x = c.args.node.now in
-    let held : Holds sc (kind_in x) (settings_in x) c.inside.result = subst (λ set. Holds sc (kind_in x) set c.inside.result) c.settings_of.ensures (c.inside.ensures has above (kind_in x)) in
-    (sym c.kind_of.ensures ∙ is_text c.kind_of.result.now (codes "group") (sym c.eq.ensures ∙ c.if-eq.true), subst (Holds sc (kind_in x) (settings_in x)) c.in-Group.is held)
+    let held : Holds sc (kind_in x) (settings_in x) c.inside.result = subst (λ set. Holds sc (kind_in x) set c.inside.result) c.settings.ensures (c.inside.ensures has above (kind_in x)) in
+    (sym c.kind.ensures ∙ is_text c.kind.result.now (codes "group") (sym c.eq.ensures ∙ c.if-eq.true), subst (Holds sc (kind_in x) (settings_in x)) c.in-Group.is held)
 
 pub returns-then-eq-2 : goal.returns-then-eq-2
 returns-then-eq-2 c has above form =
     let sc = scope_of c.args.self above in
     let x = c.args.node.now in
-    let held : Holds sc (kind_in x) (settings_in x) c.inside.result = subst (λ set. Holds sc (kind_in x) set c.inside.result) c.settings_of.ensures (c.inside.ensures has above (kind_in x)) in
-    (sym c.kind_of-in-Nothing.ensures ∙ is_text c.kind_of-in-Nothing.result.now (codes "set_position") (sym c.eq-in-Nothing.ensures ∙ c.if-eq-2.true), subst (Holds sc (kind_in x) (settings_in x)) c.in-Nothing.is held)
+    let held : Holds sc (kind_in x) (settings_in x) c.inside.result = subst (λ set. Holds sc (kind_in x) set c.inside.result) c.settings.ensures (c.inside.ensures has above (kind_in x)) in
+    (sym c.kind-in-Nothing.ensures ∙ is_text c.kind-in-Nothing.result.now (codes "set_position") (sym c.eq-in-Nothing.ensures ∙ c.if-eq-2.true), subst (Holds sc (kind_in x) (settings_in x)) c.in-Nothing.is held)
 
 pub returns-else-eq : goal.returns-else-eq
 returns-else-eq c has above form way i =
     let sc = scope_of c.args.self above in
     let x = c.args.node.now in
-    let held : Holds sc (kind_in x) (settings_in x) (inside.Group c.in-Group.group) = subst (Holds sc (kind_in x) (settings_in x)) c.in-Group.is (subst (λ set. Holds sc (kind_in x) set c.inside.result) c.settings_of.ensures (c.inside.ensures has above (kind_in x))) in
-    not_group sc way i x _ (ap (λ k. bytes_eq k (codes "group")) (sym c.kind_of.ensures) ∙ (sym c.eq.ensures ∙ c.if-eq.false)) held.2
+    let held : Holds sc (kind_in x) (settings_in x) (inside.Group c.in-Group.group) = subst (Holds sc (kind_in x) (settings_in x)) c.in-Group.is (subst (λ set. Holds sc (kind_in x) set c.inside.result) c.settings.ensures (c.inside.ensures has above (kind_in x))) in
+    not_group sc way i x _ (ap (λ k. bytes_eq k (codes "group")) (sym c.kind.ensures) ∙ (sym c.eq.ensures ∙ c.if-eq.false)) held.2
 
 pub returns-in-Zone : goal.returns-in-Zone
 returns-in-Zone c has above form way i =
     let sc = scope_of c.args.self above in
     let x = c.args.node.now in
-    let held : Holds sc (kind_in x) (settings_in x) inside.Zone = subst (Holds sc (kind_in x) (settings_in x)) c.in-Zone.is (subst (λ set. Holds sc (kind_in x) set c.inside.result) c.settings_of.ensures (c.inside.ensures has above (kind_in x))) in
+    let held : Holds sc (kind_in x) (settings_in x) inside.Zone = subst (Holds sc (kind_in x) (settings_in x)) c.in-Zone.is (subst (λ set. Holds sc (kind_in x) set c.inside.result) c.settings.ensures (c.inside.ensures has above (kind_in x))) in
     a_zone sc way i x held.0 (held.2 (settings_form x form)) held.1

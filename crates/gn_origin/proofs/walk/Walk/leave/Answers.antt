@@ -16,6 +16,6 @@ returns c =
     let items = c.in-Some.ensures.items in
     let i = c.requires.at.0 in
     let at = c.requires.at.1 in
-    let given = left old stands f fs items i c.args.socket at c.at_end-list.result c.at_end-list.ensures.0 fs (λ j. fs) c.at_end-list.ensures.1 (map named_of c.inputs_of.result.now) c.inputs_of.ensures c.socket_read.result c.socket_read.ensures in
+    let given = left old stands f fs items i c.args.socket at c.at_end-list.result c.at_end-list.ensures.0 fs (λ j. fs) c.at_end-list.ensures.1 (map named_of c.inputs.result.now) c.inputs.ensures c.socket_read.result c.socket_read.ensures in
     let ways = subst (AreOpen (tree_by old)) items stands.ways in
     on_ok c.go_on.result (λ progress on. goes_on old (record { lists = old.lists; frames = c.pop_front.new.self; site = old.site; conversions = old.conversions }) c.go_on.new.self stands (at_input (way_of (f ∷ fs)) i) fs (λ j. site_of (way_of (items j)) (at j)) ways.1 (λ j. old.lists) (λ j. fs) (λ j. map kind_number old.conversions.items) c.socket_read.result given progress on) c.go_on.ensures

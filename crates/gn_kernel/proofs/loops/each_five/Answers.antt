@@ -1,5 +1,0 @@
-use Rattle.std.proofs.Common.{◌<◌, arith}
-use Rattle.gn_kernel.proofs.loops.each_five.Goals as goal
-
-pub returns : goal.returns
-returns g c = λ k h. let h' : k < c.loop-k.k = omega arith in rw (← c.list-a.ensures.values k g.A.OfKind.zero h, ← c.list-b.ensures.values k g.A.OfKind.zero h, ← c.list-c.ensures.values k g.A.OfKind.zero h, ← c.list-d.ensures.values k g.A.OfKind.zero h, ← c.list-e.ensures.values k g.A.OfKind.zero h) (c.loop-k.invariant k g.A.OfKind.zero g.A.OfKind.zero g.A.OfKind.zero g.A.OfKind.zero g.A.OfKind.zero g.R.OfKind.zero h')

@@ -1,6 +1,0 @@
-use Rattle.std.proofs.Common.{◌<◌, ℕ, slice_index_or}
-use Rattle.gn_kernel.proofs.loops.each_five.Given as goal
-
--- what holds at each position so far
-abbrev pub invariant-loop-k : goal.invariant-loop-k
-invariant-loop-k g l = (j : ℕ) (v : _) (w : _) (x : _) (y : _) (z : _) (r : _) → j < l.k → goal.F-post g l.f (slice_index_or l.a j v) (slice_index_or l.b j w) (slice_index_or l.c j x) (slice_index_or l.d j y) (slice_index_or l.e j z) (slice_index_or l.into j r)

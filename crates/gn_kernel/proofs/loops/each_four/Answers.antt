@@ -1,5 +1,0 @@
-use Rattle.std.proofs.Common.{◌<◌, arith}
-use Rattle.gn_kernel.proofs.loops.each_four.Goals as goal
-
-pub returns : goal.returns
-returns g c = λ k h. let h' : k < c.loop-k.k = omega arith in rw (← c.list-a.ensures.values k g.A.OfKind.zero h, ← c.list-b.ensures.values k g.B.OfKind.zero h, ← c.list-c.ensures.values k g.C.OfKind.zero h, ← c.list-d.ensures.values k g.D.OfKind.zero h) (c.loop-k.invariant k g.A.OfKind.zero g.B.OfKind.zero g.C.OfKind.zero g.D.OfKind.zero g.R.OfKind.zero h')
