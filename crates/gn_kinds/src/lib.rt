@@ -7,10 +7,12 @@
 #![tactic(auto)]
 
 mod common;
+mod find;
 mod name;
 mod row;
 mod table;
 
+pub use find::{find_row, socket_kinds};
 pub use name::{find_kind, find_place, kind_name, place_name};
 pub use row::{DefaultValue, InputRow, OutputRow, Row, SettingForm, SocketKind};
-pub use table::{find_row, sections, socket_kinds};
+pub use table::sections;

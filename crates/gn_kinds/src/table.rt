@@ -1,7 +1,6 @@
-ghost use Rattle.std.specs.Prelude.{◌≡◌, List, map, option_map};
+ghost use Rattle.std.specs.Prelude.{◌≡◌, map};
 ghost use Rattle.gn_kinds.specs.Seen.{row_of};
-ghost use Rattle.gn_kinds.specs.Table as spec;
-ghost use Rattle.gn_kinds.specs.Table.{table, row_in, row_of_kind, values, functions, elsewhere, attributes, geometry_kinds, instance_kinds, groups};
+ghost use Rattle.gn_kinds.specs.Table.{table, values, functions, elsewhere, attributes, geometry_kinds, instance_kinds, groups};
 
 use crate::common::{
     ANY_BUT_CORNER, ANY_KIND, ANY_PLACE, CHOSEN, FIXED_VALUE, GEOMETRIES, GEOMETRY, HALF, INDEX,
@@ -785,36 +784,4 @@ pub fn sections() -> [&'static [Row]; 7]
         instance_kinds_rows(),
         groups_rows(),
     ]
-}
-
-/// All kinds of sockets.
-pub fn socket_kinds() -> &'static [SocketKind]
-    ensures { result.now ≡ spec.any_kind }
-{
-    ANY_KIND
-}
-
-/// The one of these rows that is the row of the kind with that name.
-fn find_among(rows: &'static [Row], kind: &str) -> Option<&'static Row>
-    ensures { option_map (λ row. row_of row.now) result ≡ row_in (map row_of rows.now) kind.now }
-{
-    for row in rows {
-        if row.kind == kind {
-            return Some(row);
-        }
-    }
-    None
-}
-
-/// The row of the kind with that name.
-#[tactic(auto, unfolding(crate::specs::Table::row_of_kind))]
-pub fn find_row(kind: &str) -> Option<&'static Row>
-    ensures { option_map (λ row. row_of row.now) result ≡ row_of_kind kind.now }
-{
-    for rows in sections() {
-        if let Some(row) = find_among(rows, kind) {
-            return Some(row);
-        }
-    }
-    None
 }

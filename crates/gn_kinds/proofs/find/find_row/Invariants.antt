@@ -1,7 +1,7 @@
 use Rattle.std.proofs.Common.{◌≡◌, drop, map}
 use Rattle.gn_kinds.specs.Seen.{row_of}
 use Rattle.gn_kinds.specs.Table.{row_in_sections, table}
-use Rattle.gn_kinds.proofs.table.find_row.Given as goal
+use Rattle.gn_kinds.proofs.find.find_row.Given as goal
 
 abbrev pub invariant-loop-rows : goal.invariant-loop-rows
 invariant-loop-rows l =
