@@ -54,7 +54,7 @@ module _ (t : Tree) (keeps : KeepsRules t) (form : HasForm t) where
       reads_near t keeps b.scope way (map one_of b.sockets) b.output list.1.out (λ _. Unit {0}) (λ l k m e. tt) (map one_of b.sockets) [] (read_at (given_out b way) i) has in
       subst (λ r. IsThere t r.from) (sym (ap (λ o. option_map_or (λ c. read_at (given_out c way) i) o (plain_read nowhere)) list.0)) (near_there way b (λ _. Unit {0}) leads near)
 
-  part_there : (way : Way) (b : Body) → LeadsTo t way b → (n : ℕ) (p : Part) → part_at t way n ≡ Some p → (r : Read) → Has (reads_in p) r → IsThere t r.from
+  pub part_there : (way : Way) (b : Body) → LeadsTo t way b → (n : ℕ) (p : Part) → part_at t way n ≡ Some p → (r : Read) → Has (reads_in p) r → IsThere t r.from
   part_there way b leads n p e r has =
       let list : (body_at t way ≡ Some b) × Holds t b = at_way t keeps form leads in
       near_there way b (λ m. IsTrue (has_edge (graph_of b.scope.nodes) n m)) leads (part_near t keeps form way b list.0 n list.1 p e r has)

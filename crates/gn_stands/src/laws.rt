@@ -1,0 +1,22 @@
+ghost use Rattle.gn_tree.specs.NodeKinds.{Kind};
+ghost use Rattle.gn_node_set.specs.Meanings.{Meanings};
+ghost use Rattle.gn_stands.specs.Claims.{StandingAgrees};
+
+/// What the kinds of nodes of trees do, for contracts alone: the types of values, of their sorts and of
+/// the sources of sampled fields, and the meanings over these.
+pub trait TreeMeanings {
+    ghost Values: { Type 0 };
+
+    ghost Sorts: { Type 0 };
+
+    ghost Sources: { Type 0 };
+
+    ghost meanings: { Meanings Kind Values Sorts Sources };
+}
+
+/// Where a graph stands for a tree that keeps the rules, each solution of its equations gives what the
+/// tree means: at each site the value of the link that carries it, the same demanded nodes, and the same
+/// warnings in the same order.
+pub fn standing_agrees<N: TreeMeanings>()
+    ensures { StandingAgrees N.meanings }
+{}
