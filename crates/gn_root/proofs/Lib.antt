@@ -1,4 +1,2 @@
-pub mod Newton
-pub mod Scaled
 pub mod Unique
 pub mod Worked

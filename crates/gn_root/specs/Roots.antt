@@ -6,10 +6,6 @@ pub record IsRoot (n r : ℕ) : Type 0 where
   pub square_fits : r * r ≤ n
   pub next_does_not : n < (r + 1) * (r + 1)
 
--- no number whose square is at most n is above x
-abbrev pub IsAtLeastRoot : ℕ → ℕ → Type 0
-IsAtLeastRoot n x = (r : ℕ) → r * r ≤ n → r ≤ x
-
 -- the greatest number from base on and below base + 2 ^ bits that passes a test, where what passes
 -- is all up to some number; base where no more pass
 unfoldable pub greatest : ℕ → (ℕ → Bool) → ℕ → ℕ

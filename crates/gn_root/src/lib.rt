@@ -1,13 +1,11 @@
 //! The square root of a whole number, rounded down.
 //!
 //! `isqrt` promises the greatest number whose square is at most its argument, for every argument of
-//! 128 bits. The number is shifted up until it fills its 128 bits; the root of the first 32 of them is found by
-//! Newton's steps, that of the first 64 by one more, and that of all by a step whose division is in 64 bits.
-//! Each step gives a number that is not below the root, so that counting down at the end, by one or two, is
-//! exact. The crate stands on nothing but `std`.
+//! 128 bits. The machine's own root of the nearest float is a first guess, which Newton's step brings closer where a float
+//! has too few digits; from there the root is counted down and up to, by one at most. What is promised doesn't
+//! rest on the guess. The crate stands on nothing but `std`.
 #![tactic(auto)]
 
 mod root;
-mod steps;
 
 pub use root::isqrt;

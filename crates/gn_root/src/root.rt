@@ -1,51 +1,51 @@
-ghost use Rattle.std.specs.Prelude.{◌≡◌, ◌<◌, ◌≤◌, ◌^◌, ◌/◌};
-ghost use Rattle.gn_root.specs.Roots.{IsRoot, IsAtLeastRoot, root};
+ghost use Rattle.std.specs.Prelude.{◌≡◌, ◌<◌, ◌≤◌, ◌*◌};
+ghost use Rattle.gn_root.specs.Roots.{IsRoot, root};
 
-use crate::steps::{closer_in_32, closer_in_64, settle};
+use std::num::{nearest_u64_to_f64, saturating_f64_to_u64};
 
-/// The root of a number that isn't 0. It takes three divisions where the number fills its 32 bits.
+/// Below this number a guess is off by one at most.
+const EXACT: u64 = 1 << 52;
+
+/// 2^64.
+const HIGH: f64 = 18_446_744_073_709_551_616.0;
+
+/// A float near the number.
 #[inline(always)]
-fn root_of_32(n: u32) -> u64
-    requires { 0 < n }
-    ensures { IsRoot n result }
-{
-    let first = closer_in_32(n, 1 << 16);
-    let second = closer_in_32(n, first);
-    let third = closer_in_32(n, second);
-    let fourth = closer_in_32(n, third);
-    settle(n as u128, fourth as u64)
+fn float_near(n: u128) -> f64 {
+    nearest_u64_to_f64((n >> 64) as u64) * HIGH + nearest_u64_to_f64((n % (1 << 64)) as u64)
 }
 
-/// The root of a number of more than 32 bits.
+/// The greatest number up to another one whose square is at most `n`.
 #[inline(always)]
-fn root_of_64(n: u64) -> u64
-    requires { 2 ^ 32 ≤ n }
-    ensures { IsRoot n result }
+fn lowered(n: u128, from: u64) -> u64
+    ensures { result * result ≤ n }
 {
-    let high = root_of_32((n >> 32) as u32);
-    settle(n as u128, closer_in_64(n, high << 16))
+    let mut root = from;
+    while root as u128 * root as u128 > n {
+        root -= 1;
+    }
+    root
 }
 
-/// A number that is not below the root of `n`, from the root of its first 64 bits: Newton's step from
-/// `high` * 2^32, in which only what the square of that leaves is divided.
+/// The root, from a number that is not above it.
 #[inline(always)]
-fn closer_in_128(n: u128, high: u64) -> u64
-    requires high { IsRoot (n / 2 ^ 64) high }
-    requires positive { 0 < high }
-    ensures { IsAtLeastRoot n result }
-{
-    let left = (n >> 33) - ((high as u128 * high as u128) << 31);
-    (high << 32).saturating_add(left as u64 / high)
-}
-
-/// The root of a number of more than 64 bits.
-#[inline(always)]
-fn root_of_128(n: u128) -> u64
-    requires { 2 ^ 96 ≤ n }
+fn raised(n: u128, from: u64) -> u64
+    requires { from * from ≤ n }
     ensures { IsRoot n result }
 {
-    let high = root_of_64((n >> 64) as u64);
-    settle(n, closer_in_128(n, high))
+    let mut root = from;
+    while root < u64::MAX && (root + 1) as u128 * (root + 1) as u128 <= n {
+        root += 1;
+    }
+    root
+}
+
+/// Newton's step: the mean of a number and of the quotient by it.
+fn closer(n: u128, guess: u64) -> u64
+    requires { 0 < guess }
+{
+    let mean = (n / guess as u128).midpoint(guess as u128);
+    mean.min(u64::MAX as u128) as u64
 }
 
 /// The square root of `n`, rounded down.
@@ -54,9 +54,11 @@ pub fn isqrt(n: u128) -> u64
     ensures root { IsRoot n result }
     ensures value { result ≡ root n }
 {
-    if n == 0 {
-        return 0;
-    }
-    let half = n.leading_zeros() / 2;
-    root_of_128(n << (2 * half)) >> half
+    let guess = saturating_f64_to_u64(float_near(n).sqrt());
+    let near = if guess < EXACT {
+        guess
+    } else {
+        closer(n, guess)
+    };
+    raised(n, lowered(n, near))
 }

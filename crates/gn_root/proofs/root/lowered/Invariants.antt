@@ -1,0 +1,4 @@
+use Rattle.gn_root.proofs.root.lowered.Given as goal
+
+abbrev pub decreases-loop-root : goal.decreases-loop-root
+decreases-loop-root l = l.root
