@@ -5,3 +5,5 @@ pub mod Reach
 pub mod Right
 pub mod Demand
 pub mod Agree
+pub mod Ranked
+pub mod Tasks

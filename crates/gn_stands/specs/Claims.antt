@@ -17,6 +17,7 @@ use Rattle.gn_meaning.specs.Demand.{Wanted, Demanded, ListsDemand, output_read}
 use Rattle.gn_meaning.specs.Enough.{GivesAll}
 use Rattle.gn_meaning.specs.Report.{Rises, IsReport}
 use Rattle.gn_stands.specs.Sources.{CarriesSite}
+use Rattle.gn_stands.specs.Tasks.{task_within}
 use Rattle.gn_stands.specs.Stands.{KnowsZones, IsNodeOf, StandsFor, ZonesOpen}
 
 -- where a zone is known to turn a number of times that keeps a condition, the lists in turns that are run
@@ -87,3 +88,7 @@ module _ {V S T : Type 0} (m : Meanings Kind V S T) where
       → HasForm t → KeepsRules t → GivesAll m.rows given t
       → KnowsZones m.rows t → StandsFor given t task → ZonesOpen given t m
       → Solves m task (told_by m given.files) den → Agrees given t task den
+
+-- a graph that is found for a tree stands for it
+abbrev pub FoundGraphsStand : (V : Type 0) → Type 0
+FoundGraphsStand V = (given : Given V) (t : Tree) (k : ℕ) (task : Task Kind V) → task_within given t k ≡ Some task → StandsFor given t task

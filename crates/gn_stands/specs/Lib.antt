@@ -1,3 +1,5 @@
 pub mod Sources
 pub mod Stands
+pub mod Order
+pub mod Tasks
 pub mod Claims

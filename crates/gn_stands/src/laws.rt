@@ -1,6 +1,6 @@
 ghost use Rattle.gn_tree.specs.NodeKinds.{Kind};
 ghost use Rattle.gn_node_set.specs.Meanings.{Meanings};
-ghost use Rattle.gn_stands.specs.Claims.{StandingAgrees};
+ghost use Rattle.gn_stands.specs.Claims.{StandingAgrees, FoundGraphsStand};
 
 /// What the kinds of nodes of trees do, for contracts alone: the types of values, of their sorts and of
 /// the sources of sampled fields, and the meanings over these.
@@ -19,4 +19,10 @@ pub trait TreeMeanings {
 /// warnings in the same order.
 pub fn standing_agrees<N: TreeMeanings>()
     ensures { StandingAgrees N.meanings }
+{}
+
+/// The graph that is found for a tree, with its nodes in the order of their ranks and those of a group
+/// in the place of the group's node, stands for the tree.
+pub fn found_graphs_stand<N: TreeMeanings>()
+    ensures { FoundGraphsStand N.Values }
 {}
