@@ -7,7 +7,7 @@ use std::alloc::Global;
 
 /// One step of a path: a node by its position in the list of nodes that it is in and, where the step
 /// leads into a zone, the turn of the zone.
-#[derive(Clone, Copy, Debug, PartialEq, Eq, PartialOrd, Ord)]
+#[derive(Clone, Copy, Debug, PartialEq, Eq, PartialOrd, Ord, Hash)]
 pub struct PathStep {
     /// The node's position, from 0.
     pub node: u32,
@@ -19,7 +19,7 @@ pub struct PathStep {
 /// last the node itself.
 ///
 /// Paths are ordered by their steps from the left, a path before those that go on from it.
-#[derive(Debug, PartialEq, Eq, PartialOrd, Ord, Drop)]
+#[derive(Debug, PartialEq, Eq, PartialOrd, Ord, Hash, Drop)]
 pub struct Path {
     /// The steps, from the outside.
     pub steps: Vec<PathStep>,
