@@ -49,7 +49,7 @@ group_by kind (Some b) run inner reads e = by_name (bytes_eq kind (codes "group"
     by_name true h = cc
     by_name false h = cc
 
-repeat_by : (kind : Text) (o : Option Body) (run other : Run) (inner : Body) → part_by kind o run ≡ a_repeat other inner → (o ≡ Some inner) × (bytes_eq kind (codes "group") ≡ false) × (run ≡ other)
+pub repeat_by : (kind : Text) (o : Option Body) (run other : Run) (inner : Body) → part_by kind o run ≡ a_repeat other inner → (o ≡ Some inner) × (bytes_eq kind (codes "group") ≡ false) × (run ≡ other)
 repeat_by kind None run other inner e = cc
 repeat_by kind (Some b) run other inner e = by_name (bytes_eq kind (codes "group")) refl e
   where
