@@ -49,7 +49,7 @@ module _ {V S T : Type 0} (m : Meanings Kind V S T) (given : Given V) (t : Tree)
       then_some (λ u. value_within m.rows given t j (at_item way n (m.rows.turns run.kind u) s)) (run_output m.rows given t (value_within m.rows given t j) run 0) v got in
       (u.0, (j, u.1))
 
-own_origin : (t : Tree) (way : Way) (n s : ℕ) (run : Run) → run_of t (at_output way n s) ≡ Some run → ComesFrom t (at_output way n s) (plain_read (at_output way n s))
+pub own_origin : (t : Tree) (way : Way) (n s : ℕ) (run : Run) → run_of t (at_output way n s) ≡ Some run → ComesFrom t (at_output way n s) (plain_read (at_output way n s))
 own_origin t way n s run e = elim (part_of_run t way n s run e) [
   | inl plain ↦ (1, ap (output_origin t (origin_within t 0) way n s) plain)
   | inr (b, zone) ↦ (1, ap (output_origin t (origin_within t 0) way n s) zone)

@@ -18,7 +18,7 @@ use Rattle.gn_meaning.proofs.Options.{some_same, map_some}
 abbrev pub beyond : Read → Read → Read
 beyond o r = record { from = o.from; through = o.through ++ r.through }
 
-beyond_nothing : (o : Read) (site : Site) → o ≡ beyond o (plain_read site)
+pub beyond_nothing : (o : Read) (site : Site) → o ≡ beyond o (plain_read site)
 beyond_nothing o site = let whole : o.through ≡ o.through ++ [] = sym (append_nil o.through) in λ i. record { from = o.from; through = whole i }
 
 module _ (t : Tree) where
@@ -84,14 +84,21 @@ module _ (t : Tree) where
     found (at_constant c) origin h = itself tt (some_same h)
     found nowhere origin h = cc
 
-    -- the origin of what a site leads to, with the conversion of the read, is that of the site
+    whole : (o : Option Read) (site : Site) → o ≡ option_map (λ x. beyond x (plain_read site)) o
+    whole None site = refl
+    whole (Some x) site = ap Some (beyond_nothing x site)
+
+    -- the origin of a site is that of what it leads to, with the conversion of the read
+    pub led_equation : (site : Site) (r : Read) → Leads site r → origin_within t (suc k) site ≡ option_map (λ x. beyond x r) (so_far r.from)
+    led_equation site r (group_output {way} {n} {s} b reads e) = ap (output_origin t so_far way n s) e
+    led_equation site r (group_input {way} {step} {i} b reads e) = ap (input_origin t so_far way step i) e
+    led_equation site r (turn_item {way} {step} {i} j run b e f) =
+        ap (input_origin t so_far way step (suc i)) e ∙ ap (λ turn. turn_origin t so_far way step.node turn (suc i)) f ∙ whole (so_far (at_item way step.node j i)) (at_item way step.node j i)
+    led_equation site r (first {way} {n} {i} run b e) = ap (first_origin t so_far i) e
+    led_equation site r (later {way} {n} {k = j} {i}) = refl
+
     pub led_origin : (site : Site) (r o : Read) → Leads site r → so_far r.from ≡ Some o → origin_within t (suc k) site ≡ Some (beyond o r)
-    led_origin site r o (group_output {way} {n} {s} b reads e) h = ap (output_origin t so_far way n s) e ∙ ap (option_map (λ x. beyond x r)) h
-    led_origin site r o (group_input {way} {step} {i} b reads e) h = ap (input_origin t so_far way step i) e ∙ ap (option_map (λ x. beyond x r)) h
-    led_origin site r o (turn_item {way} {step} {i} j run b e f) h =
-        ap (input_origin t so_far way step (suc i)) e ∙ ap (λ turn. turn_origin t so_far way step.node turn (suc i)) f ∙ h ∙ ap Some (beyond_nothing o (at_item way step.node j i))
-    led_origin site r o (first {way} {n} {i} run b e) h = ap (first_origin t so_far i) e ∙ ap (option_map (λ x. beyond x r)) h
-    led_origin site r o (later {way} {n} {k = j} {i}) h = ap (option_map (λ x. beyond x r)) h
+    led_origin site r o l h = led_equation site r l ∙ ap (option_map (λ x. beyond x r)) h
 
   module _ {V : Type 0} (rows : Rows Kind V) (given : Given V) (j : ℕ) where
     abbrev values : Site → Option V

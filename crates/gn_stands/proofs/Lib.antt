@@ -7,3 +7,6 @@ pub mod Demand
 pub mod Agree
 pub mod Ranked
 pub mod Tasks
+pub mod Raised
+pub mod Inner
+pub mod Opens

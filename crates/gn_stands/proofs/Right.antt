@@ -186,10 +186,10 @@ module _ {V S T : Type 0} (m : Meanings Kind V S T) (given : Given V) (t : Tree)
   turns_of zone = m.rows.turns zone.kind (head_of_zone zone)
 
   pub results_carry : (way : Way) (n : ℕ) (run : Run) (b : Body) (zone : Node Kind V) → Reaches m given t task den way → part_at t way n ≡ Some (a_repeat run b) → IsNodeOf given t run zone
-      → Beside (Carries given t) (items_after given t way n (turns_of zone) b) (result_links m val zone)
+      → Beside (Carries given t) (items_after way n (turns_of zone) b) (result_links m val zone)
   results_carry way n run b zone reached e is =
       let o : OpensFor given t m way n b zone (head_of_zone zone) = opened m given t task den knows stands opens n run b zone reached e is in
-      carried_beside given t (items_after given t way n (turns_of zone) b) (result_links m val zone) o.outputs
+      carried_beside given t (items_after way n (turns_of zone) b) (result_links m val zone) o.outputs
 
   pub item_reached : (way : Way) (n s : ℕ) (run : Run) (b : Body) (zone : Node Kind V) → Reaches m given t task den way → part_at t way n ≡ Some (a_repeat run b) → NodeThere zone → IsNodeOf given t run zone → Open (at_item way n (turns_of zone) s)
   item_reached way n s run b zone reached e there is = (reached, record { run = run; body = b; zone = zone; part = e; there = there; is = is; often = omega arith })
@@ -204,7 +204,7 @@ module _ {V S T : Type 0} (m : Meanings Kind V S T) (given : Given V) (t : Tree)
   pub result_at : (way : Way) (n s : ℕ) (run : Run) (b : Body) (zone : Node Kind V) → Reaches m given t task den way → part_at t way n ≡ Some (a_repeat run b) → IsNodeOf given t run zone → s < length b.sockets
       → (link : Link V) × (slice_get (result_links m val zone) s ≡ Some link) × Carries given t (plain_read (at_item way n (turns_of zone) s)) link
   result_at way n s run b zone reached e is h =
-      beside_get (Carries given t) (items_after given t way n (turns_of zone) b) (result_links m val zone) (results_carry way n run b zone reached e is) s (plain_read (at_item way n (turns_of zone) s))
+      beside_get (Carries given t) (items_after way n (turns_of zone) b) (result_links m val zone) (results_carry way n run b zone reached e is) s (plain_read (at_item way n (turns_of zone) s))
       (items_at way n (turns_of zone) 0 (length b.sockets) s h ∙ ap (λ j. Some (plain_read (at_item way n (turns_of zone) j))) (from_zero s))
 
   module _ (j : ℕ) (right : Right j) where

@@ -66,7 +66,7 @@ below_count names (and_node (node id kind set inputs) ns) zero x e = omega arith
 below_count names (and_node (node id kind set inputs) ns) (suc n) x e = let less : n < length (graph_from names ns) = below_count names ns n x e in omega (arith, less)
 
 module _ (t : Tree) where
-  part_ordered : (way : Way) (n : ℕ) (p : Part) → part_at t way n ≡ Some p → Has (order_at t way) n
+  part_ordered : (way : Way) (n : ℕ) (p : Part) → part_at t way n ≡ Some p → Has (order_at (body_at t) way) n
   part_ordered way n p e =
       let list : (b : Body) × (body_at t way ≡ Some b) × (option_map (part_in b.scope way n) (node_at b.scope.nodes n) ≡ Some p) =
       then_some (λ b. option_map (part_in b.scope way n) (node_at b.scope.nodes n)) (body_at t way) p e in
@@ -75,35 +75,35 @@ module _ (t : Tree) where
       (has_ranked (graph_of list.0.scope.nodes) n (below_count (ids list.0.scope.nodes) list.0.scope.nodes n x.0 x.1))
 
   abbrev known_in : ℕ → Way → ℕ → Option (List Run)
-  known_in k way n = part_runs t (runs_within t k) way n (part_at t way n)
+  known_in k way n = part_runs (body_at t) (runs_within (body_at t) k) way n (part_at t way n)
 
-  parts_found : (k : ℕ) (way : Way) (runs : List Run) → runs_within t (suc k) way ≡ Some runs → (lists : List (List Run)) × (all_of (map (known_in k way) (order_at t way)) ≡ Some lists) × (flat_map (λ rs. rs) lists ≡ runs)
-  parts_found k way runs e = map_some (flat_map (λ rs. rs)) (all_of (map (known_in k way) (order_at t way))) runs e
+  parts_found : (k : ℕ) (way : Way) (runs : List Run) → runs_within (body_at t) (suc k) way ≡ Some runs → (lists : List (List Run)) × (all_of (map (known_in k way) (order_at (body_at t) way)) ≡ Some lists) × (flat_map (λ rs. rs) lists ≡ runs)
+  parts_found k way runs e = map_some (flat_map (λ rs. rs)) (all_of (map (known_in k way) (order_at (body_at t) way))) runs e
 
   -- what is found for a node is found for its list
-  part_found : (k : ℕ) (way : Way) (runs : List Run) (n : ℕ) (p : Part) → runs_within t (suc k) way ≡ Some runs → part_at t way n ≡ Some p → (rs : List Run) × (part_runs t (runs_within t k) way n (Some p) ≡ Some rs) × ((run : Run) → Has rs run → Has runs run)
+  part_found : (k : ℕ) (way : Way) (runs : List Run) (n : ℕ) (p : Part) → runs_within (body_at t) (suc k) way ≡ Some runs → part_at t way n ≡ Some p → (rs : List Run) × (part_runs (body_at t) (runs_within (body_at t) k) way n (Some p) ≡ Some rs) × ((run : Run) → Has rs run → Has runs run)
   part_found k way runs n p e at =
-      let lists : (lists : List (List Run)) × (all_of (map (known_in k way) (order_at t way)) ≡ Some lists) × (flat_map (λ rs. rs) lists ≡ runs) = parts_found k way runs e in
-      let rs : (rs : List Run) × (known_in k way n ≡ Some rs) × Has lists.0 rs = found_image (known_in k way) (order_at t way) lists.0 lists.1 n (part_ordered way n p at) in
-      (rs.0, ap (part_runs t (runs_within t k) way n) (sym at) ∙ rs.1, λ run h. subst (λ all. Has all run) lists.2 (has_flat (λ xs. xs) lists.0 rs.0 run rs.2 h))
+      let lists : (lists : List (List Run)) × (all_of (map (known_in k way) (order_at (body_at t) way)) ≡ Some lists) × (flat_map (λ rs. rs) lists ≡ runs) = parts_found k way runs e in
+      let rs : (rs : List Run) × (known_in k way n ≡ Some rs) × Has lists.0 rs = found_image (known_in k way) (order_at (body_at t) way) lists.0 lists.1 n (part_ordered way n p at) in
+      (rs.0, ap (part_runs (body_at t) (runs_within (body_at t) k) way n) (sym at) ∙ rs.1, λ run h. subst (λ all. Has all run) lists.2 (has_flat (λ xs. xs) lists.0 rs.0 run rs.2 h))
 
   abbrev Within : Way → List Run → Type 0
-  Within way runs = (j : ℕ) × (rs : List Run) × (runs_within t j way ≡ Some rs) × ((run : Run) → Has rs run → Has runs run)
+  Within way runs = (j : ℕ) × (rs : List Run) × (runs_within (body_at t) j way ≡ Some rs) × ((run : Run) → Has rs run → Has runs run)
 
-  inner_found : (k : ℕ) (outer : Way) (runs : List Run) → runs_within t k outer ≡ Some runs → {way : Way} → Unfolds t outer way → Within way runs
+  inner_found : (k : ℕ) (outer : Way) (runs : List Run) → runs_within (body_at t) k outer ≡ Some runs → {way : Way} → Unfolds t outer way → Within way runs
   inner_found k outer runs e the_list = (k, runs, e, λ run h. h)
   inner_found k outer runs e (in_group {way} n b reads u at) = by_fuel (inner_found k outer runs e u)
     where
       by_fuel : Within way runs → Within (into way (plain_step n)) runs
       by_fuel (zero, rs, f, sub) = cc
       by_fuel (suc j, rs, f, sub) =
-          let q : (inner : List Run) × (runs_within t j (into way (plain_step n)) ≡ Some inner) × ((run : Run) → Has inner run → Has rs run) = part_found j way rs n (a_group b reads) f at in
+          let q : (inner : List Run) × (runs_within (body_at t) j (into way (plain_step n)) ≡ Some inner) × ((run : Run) → Has inner run → Has rs run) = part_found j way rs n (a_group b reads) f at in
           (j, q.0, q.1, λ run h. sub run (q.2 run h))
 
   own_run : (run : Run) (rs : List Run) → Some (run ∷ []) ≡ Some rs → Has rs run
   own_run run rs e = subst (λ xs. Has xs run) (some_same e) (inl refl)
 
-  pub run_found : (k : ℕ) (outer : Way) (runs : List Run) → runs_within t k outer ≡ Some runs → (way : Way) (n : ℕ) (run : Run) → Unfolds t outer way → run_of t (at_output way n 0) ≡ Some run → Has runs run
+  pub run_found : (k : ℕ) (outer : Way) (runs : List Run) → runs_within (body_at t) k outer ≡ Some runs → (way : Way) (n : ℕ) (run : Run) → Unfolds t outer way → run_of t (at_output way n 0) ≡ Some run → Has runs run
   run_found k outer runs e way n run u at = by_fuel (inner_found k outer runs e u)
     where
       by_fuel : Within way runs → Has runs run
@@ -123,16 +123,16 @@ module _ (t : Tree) where
       by_place (inl same) = (way, n, u, at ∙ ap Some (sym same))
       by_place (inr k) = absurd k
 
-  pub found_run : (k : ℕ) (outer way : Way) (runs : List Run) → Unfolds t outer way → runs_within t k way ≡ Some runs → (run : Run) → Has runs run → IsIn outer run
+  pub found_run : (k : ℕ) (outer way : Way) (runs : List Run) → Unfolds t outer way → runs_within (body_at t) k way ≡ Some runs → (run : Run) → Has runs run → IsIn outer run
   found_run zero outer way runs u e run h = cc
   found_run (suc k) outer way runs u e run h =
-      let lists : (lists : List (List Run)) × (all_of (map (known_in k way) (order_at t way)) ≡ Some lists) × (flat_map (λ rs. rs) lists ≡ runs) = parts_found k way runs e in
+      let lists : (lists : List (List Run)) × (all_of (map (known_in k way) (order_at (body_at t) way)) ≡ Some lists) × (flat_map (λ rs. rs) lists ≡ runs) = parts_found k way runs e in
       let rs : (rs : List Run) × Has lists.0 rs × Has rs run = flat_has (λ xs. xs) lists.0 run (subst (λ all. Has all run) (sym lists.2) h) in
-      let n : (n : ℕ) × Has (order_at t way) n × (known_in k way n ≡ Some rs.0) = image_found (known_in k way) (order_at t way) lists.0 lists.1 rs.0 rs.1 in
+      let n : (n : ℕ) × Has (order_at (body_at t) way) n × (known_in k way n ≡ Some rs.0) = image_found (known_in k way) (order_at (body_at t) way) lists.0 lists.1 rs.0 rs.1 in
       by_part (λ inner more f run' h'. found_run k outer inner more f.0 f.1 run' h') n.0 rs.0 (part_at t way n.0) refl n.2 rs.2
     where
-      by_part : ((inner : Way) (more : List Run) → Unfolds t outer inner × (runs_within t k inner ≡ Some more) → (run' : Run) → Has more run' → IsIn outer run')
-          → (n : ℕ) (rs : List Run) (p : Option Part) → part_at t way n ≡ p → part_runs t (runs_within t k) way n p ≡ Some rs → Has rs run → IsIn outer run
+      by_part : ((inner : Way) (more : List Run) → Unfolds t outer inner × (runs_within (body_at t) k inner ≡ Some more) → (run' : Run) → Has more run' → IsIn outer run')
+          → (n : ℕ) (rs : List Run) (p : Option Part) → part_at t way n ≡ p → part_runs (body_at t) (runs_within (body_at t) k) way n p ≡ Some rs → Has rs run → IsIn outer run
       by_part again n rs None at f h' = absurd (subst (λ xs. Has xs run) (sym (some_same f)) h')
       by_part again n rs (Some (a_node own)) at f h' = only_own way n outer own run rs u (ap (option_and_then run_in) at) f h'
       by_part again n rs (Some (a_group b reads)) at f h' = again (into way (plain_step n)) rs (in_group n b reads u at, f) run h'
@@ -164,8 +164,8 @@ module _ {V : Type 0} (given : Given V) (t : Tree) (k : ℕ) where
   pub found_nodes : (outer : Way) (nodes : List (Node Kind V)) → nodes_within given t k outer ≡ Some nodes → AreRuns given t (Unfolds t outer) nodes
   found_nodes outer nodes e = record { each = each; only = only }
     where
-      runs : (runs : List Run) × (runs_within t k outer ≡ Some runs) × (all_of (map (node_within given t k) runs) ≡ Some nodes)
-      runs = then_some (λ rs. all_of (map (node_within given t k) rs)) (runs_within t k outer) nodes e
+      runs : (runs : List Run) × (runs_within (body_at t) k outer ≡ Some runs) × (all_of (map (node_within given t k) runs) ≡ Some nodes)
+      runs = then_some (λ rs. all_of (map (node_within given t k) rs)) (runs_within (body_at t) k outer) nodes e
 
       each : (way : Way) (n : ℕ) (run : Run) → Unfolds t outer way → run_of t (at_output way n 0) ≡ Some run → (x : Node Kind V) × Has nodes x × IsNodeOf given t run x
       each way n run u at =

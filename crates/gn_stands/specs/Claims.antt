@@ -11,13 +11,14 @@ use Rattle.gn_meaning.specs.Sites.{Way, the_tree, into, plain_step, turn_step, S
 use Rattle.gn_meaning.specs.Bodies.{Body}
 use Rattle.gn_meaning.specs.Reads.{Run, a_group, a_repeat, part_at, run_of}
 use Rattle.gn_meaning.specs.Forms.{HasForm}
-use Rattle.gn_meaning.specs.There.{IsThere}
+use Rattle.gn_meaning.specs.There.{LeadsTo, IsThere}
 use Rattle.gn_meaning.specs.Denotation.{Given, StandsAt, read_value, value_within, Ends, Gives}
 use Rattle.gn_meaning.specs.Demand.{Wanted, Demanded, ListsDemand, output_read}
 use Rattle.gn_meaning.specs.Enough.{GivesAll}
 use Rattle.gn_meaning.specs.Report.{Rises, IsReport}
 use Rattle.gn_stands.specs.Sources.{CarriesSite}
 use Rattle.gn_stands.specs.Tasks.{task_within}
+use Rattle.gn_stands.specs.Zones.{opened_within}
 use Rattle.gn_stands.specs.Stands.{KnowsZones, IsNodeOf, StandsFor, ZonesOpen}
 
 -- where a zone is known to turn a number of times that keeps a condition, the lists in turns that are run
@@ -92,3 +93,12 @@ module _ {V S T : Type 0} (m : Meanings Kind V S T) where
 -- a graph that is found for a tree stands for it
 abbrev pub FoundGraphsStand : (V : Type 0) → Type 0
 FoundGraphsStand V = (given : Given V) (t : Tree) (k : ℕ) (task : Task Kind V) → task_within given t k ≡ Some task → StandsFor given t task
+
+-- meanings whose zones open what is found for their kinds
+abbrev pub OpenAsFound : {V S T : Type 0} → Meanings Kind V S T → Given V → Tree → Type 0
+OpenAsFound {V} m given t = (way : Way) (outer : Body) (n : ℕ) (run : Run) (b : Body) (head : V) → LeadsTo t way outer → part_at t way n ≡ Some (a_repeat run b)
+    → (k : ℕ) × (opened_within run.kind run.path given k (m.rows.turns run.kind head) ≡ Some (m.opens run.path run.kind head))
+
+-- then the zones of each tree that keeps the rules open for their turns
+abbrev pub FoundZonesOpen : {V S T : Type 0} → Meanings Kind V S T → Type 0
+FoundZonesOpen {V} m = (given : Given V) (t : Tree) → HasForm t → KeepsRules t → OpenAsFound m given t → ZonesOpen given t m

@@ -23,6 +23,10 @@ pub record KnowsZones {V : Type 0} (rows : Rows Kind V) (t : Tree) : Type 0 wher
   pub zones : (way : Way) (n : ℕ) (run : Run) (b : Body) → part_at t way n ≡ Some (a_repeat run b) → rows.role run.kind ≡ Zone
   pub others : (way : Way) (n : ℕ) (run : Run) → part_at t way n ≡ Some (a_node run) → rows.role run.kind ≢ Zone
 
+-- the items of a zone after some turns
+abbrev pub items_after : Way → ℕ → ℕ → Body → List Read
+items_after way n turns b = map (λ i. plain_read (at_item way n turns i)) (range_with_len 0 (length b.sockets))
+
 module _ {V : Type 0} (given : Given V) (t : Tree) where
   -- the node is that of the run: its links carry what the run reads
   pub record IsNodeOf (run : Run) (node : Node Kind V) : Type 0 where
@@ -43,10 +47,6 @@ module _ {V : Type 0} (given : Given V) (t : Tree) where
   -- the lists of some first turns of a zone, and of the groups in them
   abbrev pub InTurns : Way → ℕ → ℕ → Way → Type 0
   InTurns way n turns inner = (k : ℕ) × (k < turns) × Unfolds t (into way (turn_step n k)) inner
-
-  -- the items of a zone after some turns
-  abbrev pub items_after : Way → ℕ → ℕ → Body → List Read
-  items_after way n turns b = map (λ i. plain_read (at_item way n turns i)) (range_with_len 0 (length b.sockets))
 
   module _ {S T : Type 0} (m : Meanings Kind V S T) where
     -- what the zone opens by the output of its run stands for its turns: the nodes are those of all turns, and its outputs are the items after the last one

@@ -1,6 +1,6 @@
 ghost use Rattle.gn_tree.specs.NodeKinds.{Kind};
 ghost use Rattle.gn_node_set.specs.Meanings.{Meanings};
-ghost use Rattle.gn_stands.specs.Claims.{StandingAgrees, FoundGraphsStand};
+ghost use Rattle.gn_stands.specs.Claims.{StandingAgrees, FoundGraphsStand, FoundZonesOpen};
 
 /// What the kinds of nodes of trees do, for contracts alone: the types of values, of their sorts and of
 /// the sources of sampled fields, and the meanings over these.
@@ -25,4 +25,10 @@ pub fn standing_agrees<N: TreeMeanings>()
 /// in the place of the group's node, stands for the tree.
 pub fn found_graphs_stand<N: TreeMeanings>()
     ensures { FoundGraphsStand N.Values }
+{}
+
+/// Where each zone of a tree that keeps the rules opens what is found for its kind and its path, which
+/// are all that it has of the tree, its zones open for their turns.
+pub fn found_zones_open<N: TreeMeanings>()
+    ensures { FoundZonesOpen N.meanings }
 {}
