@@ -17,6 +17,3 @@ pub mod name;
 pub use column::Column;
 pub use columns::{Columns, NoSpace};
 pub use name::Name;
-
-#[cfg(test)]
-mod tests;

@@ -10,6 +10,8 @@ mod arrays;
 #[cfg(test)]
 mod atom;
 #[cfg(test)]
+mod attr;
+#[cfg(test)]
 mod decimal;
 #[cfg(test)]
 mod elements;

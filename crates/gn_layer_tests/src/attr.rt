@@ -1,4 +1,4 @@
-use super::*;
+use gn_attr::{Column, Columns, Name};
 use gn_lazy::{Path, PathStep};
 use gn_memory::Memory;
 use gn_shared::Meter;
