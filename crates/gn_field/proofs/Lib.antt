@@ -1,0 +1,9 @@
+pub mod Grown
+mod Same
+mod SameTrees
+mod Bare
+mod Sourced
+mod Merging
+mod Joining
+mod Roots
+mod Facts

@@ -1,0 +1,6 @@
+pub mod Steps
+pub mod Trees
+pub mod Kinds
+pub mod Merged
+pub mod Codes
+pub mod Faults

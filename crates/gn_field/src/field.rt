@@ -1,0 +1,271 @@
+// Fields, each kept as the list of its different subtrees.
+ghost use Rattle.std.specs.Prelude.{◌≡◌, ◌<◌, ◌≤◌, ◌+◌, ◌-◌, slice_index, ◌^◌, length, map, [], ◌∷◌, ◌++◌, IfOk, IfErr, OnOk};
+ghost use Rattle.gn_value.specs.Operations.{Takes};
+ghost use Rattle.gn_plain.specs.Fields.{constant, input as input_of, apply, elsewhere, sampled, varies, kind_of_field};
+ghost use Rattle.gn_plain.specs.Subtrees.{count_different};
+ghost use Rattle.gn_field.specs.Steps.{plain_input, step_of, exprs_of, built, last_of};
+ghost use Rattle.gn_field.specs.Trees.{AgreesOnSources};
+ghost use Rattle.gn_field.specs.Kinds.{step_takes, HasKinds};
+ghost use Rattle.gn_field.specs.Merged.{IsMerged, IsField, Joins, Gathers, Finishes};
+ghost use Rattle.gn_field.specs.Faults.{IsFieldFault};
+
+use crate::input::{Input, Step};
+use crate::merge::merge;
+use crate::step::{FieldStep, Source, last_kind, read_context};
+use gn_lazy::Path;
+use gn_memory::Memory;
+use gn_value::op::Op;
+use gn_value::{Value, ValueKind};
+use std::alloc::Global;
+use std::marker::Model;
+use std::sync::Arc;
+use thiserror::Error;
+
+/// A field: what has a value at each element. Contracts see it as an expression.
+#[derive(Drop)]
+pub struct Field<S: Source> {
+    steps: Arc<Vec<FieldStep<S>>>,
+}
+
+impl<S: Source> Model for Field<S> {
+    ghost use Rattle.std.specs.Arc.{arc_value};
+    ghost use Rattle.gn_plain.specs.Fields.{Expr};
+    ghost use Rattle.gn_field.specs.Codes.{expr_code};
+
+    ghost Value = { Expr S };
+
+    ghost coded = { expr_code S.code };
+
+    ghost use Rattle.gn_field.specs.Steps.{last_of, built};
+    ghost use Rattle.gn_field.specs.Merged.{IsField};
+
+    ghost view = { λ f. last_of (built (arc_value f.steps).items) };
+
+    ghost invariant = { λ f. IsField S.sources S.taken (arc_value f.steps).items };
+}
+
+/// Why a field was not made.
+#[derive(Clone, Copy, Debug, PartialEq, Eq, Error)]
+pub enum FieldFault {
+    /// It would have more than 4,096 different subtrees.
+    #[error("the field has {distinct} different subtrees")]
+    TooMany {
+        /// How many.
+        distinct: u32,
+    },
+    /// There was no memory for it.
+    #[error("out of memory")]
+    Memory,
+}
+
+impl From<Memory> for FieldFault {
+    ghost use Rattle.std.specs.Prelude.{◌≡◌};
+    ghost use Rattle.gn_field.specs.declared.field.FieldFault.TheVariants.{Memory};
+
+    ghost from_gives = { λ _ fault. fault ≡ Memory };
+
+    fn from(_: Memory) -> Self {
+        FieldFault::Memory
+    }
+}
+
+/// The steps of several fields, each once, and the place of each field.
+#[derive(Drop)]
+struct Gathered<S> {
+    steps: Vec<FieldStep<S>>,
+    roots: Vec<u32>,
+}
+
+/// The last of some places.
+fn last_place(places: &[u32]) -> u32
+    requires { 0 < length places.now }
+    ensures { result ≡ slice_index places.now (length places.now - 1) }
+{
+    places[places.len() - 1]
+}
+
+/// Merges the steps of a field into others, and returns the place of the field.
+fn join<S: Source>(
+    alloc: Global,
+    steps: &mut Vec<FieldStep<S>>,
+    field: &Field<S>,
+) -> Result<u32, Memory>
+    requires merged { IsMerged steps.old.items }
+    requires few { length steps.old.items ≤ 2 ^ 29 }
+    ensures { IfOk result (λ root. Joins S.sources S.taken steps.old.items field.now root steps.new.items) }
+{
+    let places = merge(alloc, steps, field.steps.as_slice())?;
+    Ok(last_place(&places))
+}
+
+/// Gathers the steps of fields.
+fn gather<S: Source>(alloc: Global, fields: &[Field<S>]) -> Result<Gathered<S>, Memory>
+    requires { length fields.now ≤ 65536 }
+    ensures { IfOk result (λ g. Gathers S.sources S.taken fields.now g.steps.items g.roots.items) }
+{
+    let mut steps = Vec::new(alloc);
+    let mut roots = Vec::with_capacity(alloc, fields.len())?;
+    for field in fields {
+        let root = join(alloc, &mut steps, field)?;
+        roots.push(root)?;
+    }
+    Ok(Gathered { steps, roots })
+}
+
+/// The field of these steps with one behind them.
+fn field_of<S: Source>(
+    alloc: Global,
+    steps: Vec<FieldStep<S>>,
+    step: FieldStep<S>,
+) -> Result<Field<S>, Memory>
+    requires { IsField S.sources S.taken (steps.items ++ step ∷ []) }
+    ensures { IfOk result (λ f. f ≡ last_of (built (steps.items ++ step ∷ []))) }
+{
+    let mut steps = steps;
+    steps.push(step)?;
+    let steps = Arc::new(alloc, steps)?;
+    Ok(Field { steps })
+}
+
+/// The field that a step makes of others, behind their steps.
+fn finish<S: Source>(
+    alloc: Global,
+    steps: Vec<FieldStep<S>>,
+    step: FieldStep<S>,
+) -> Result<Field<S>, FieldFault>
+    requires makes { Finishes S.sources S.taken steps.items step }
+    requires short { length steps.items ≤ 2 ^ 29 }
+    ensures field { IfOk result (λ f. f ≡ last_of (built (steps.items ++ step ∷ []))) }
+    ensures few { OnOk result (length steps.items + 1 ≤ 4096) }
+    ensures fault { IfErr result (IsFieldFault (length steps.items + 1)) }
+{
+    let distinct = steps.len() as u32 + 1;
+    if distinct > 4096 {
+        return Err(FieldFault::TooMany { distinct });
+    }
+    let field = field_of(alloc, steps, step)?;
+    Ok(field)
+}
+
+impl<S: Source> Field<S> {
+    /// The field that has this value everywhere.
+    pub fn constant(alloc: Global, value: Value) -> Result<Field<S>, Memory>
+        ensures { IfOk result (λ f. f ≡ constant value) }
+    {
+        field_of(alloc, Vec::new(alloc), FieldStep::Constant { value })
+    }
+
+    /// The field that reads this of each element.
+    pub fn input(alloc: Global, input: Input) -> Result<Field<S>, Memory>
+        ensures { IfOk result (λ f. f ≡ input_of (plain_input input)) }
+    {
+        field_of(alloc, Vec::new(alloc), FieldStep::Input { input })
+    }
+
+    /// An operation on the values of fields, which have the kinds that it takes.
+    ///
+    /// `TooMany` comes exactly where the field would have more than 4,096 different subtrees.
+    pub fn apply(alloc: Global, op: Op, args: Vec<Field<S>>) -> Result<Field<S>, FieldFault>
+        requires takes { Takes op (map (kind_of_field S.sources) args.items) }
+        requires few_args { length args.items ≤ 65536 }
+        requires one_source { AgreesOnSources (apply op (exprs_of args.items)) }
+        ensures field { IfOk result (λ f. f ≡ apply op (exprs_of args.items)) }
+        ensures few { OnOk result (count_different (apply op (exprs_of args.items) ∷ []) ≤ 4096) }
+        ensures fault { IfErr result (IsFieldFault (count_different (apply op (exprs_of args.items) ∷ []))) }
+    {
+        let Gathered { steps, roots } = gather(alloc, &args)?;
+        finish(alloc, steps, FieldStep::Apply { op, args: roots })
+    }
+
+    /// A step that reads the values of fields elsewhere. They have the kinds that it takes.
+    ///
+    /// `TooMany` comes exactly where the field would have more than 4,096 different subtrees.
+    pub fn elsewhere(alloc: Global, step: Step, args: Vec<Field<S>>) -> Result<Field<S>, FieldFault>
+        requires takes { map (kind_of_field S.sources) args.items ≡ step_takes (step_of step) }
+        requires one_source { AgreesOnSources (elsewhere (step_of step) (exprs_of args.items)) }
+        ensures field { IfOk result (λ f. f ≡ elsewhere (step_of step) (exprs_of args.items)) }
+        ensures few { OnOk result (count_different (elsewhere (step_of step) (exprs_of args.items) ∷ []) ≤ 4096) }
+        ensures fault { IfErr result (IsFieldFault (count_different (elsewhere (step_of step) (exprs_of args.items) ∷ []))) }
+    {
+        let Gathered { steps, roots } = gather(alloc, &args)?;
+        finish(alloc, steps, FieldStep::Elsewhere { step, args: roots })
+    }
+
+    /// What a source, which the node at the path `tag` made, gives for the values of a field. They
+    /// have the kind that it takes.
+    ///
+    /// `TooMany` comes exactly where the field would have more than 4,096 different subtrees.
+    pub fn sampled(
+        alloc: Global,
+        tag: Path,
+        source: S,
+        arg: Field<S>,
+    ) -> Result<Field<S>, FieldFault>
+        requires takes { kind_of_field S.sources arg ≡ S.taken source }
+        requires one_source { AgreesOnSources (sampled tag.steps.items source arg) }
+        ensures field { IfOk result (λ f. f ≡ sampled tag.steps.items source arg) }
+        ensures few { OnOk result (count_different (sampled tag.steps.items source arg ∷ []) ≤ 4096) }
+        ensures fault { IfErr result (IsFieldFault (count_different (sampled tag.steps.items source arg ∷ []))) }
+    {
+        let mut steps = Vec::new(alloc);
+        let root = join(alloc, &mut steps, &arg)?;
+        finish(
+            alloc,
+            steps,
+            FieldStep::Sampled {
+                tag,
+                source,
+                arg: root,
+            },
+        )
+    }
+
+    /// The same field once more.
+    pub fn second(&self) -> Result<Field<S>, Memory>
+        ensures { IfOk result (λ f. f ≡ self.now) }
+    {
+        let steps = self.steps.clone()?;
+        Ok(Field { steps })
+    }
+
+    /// Whether the field reads its context.
+    pub fn varies(&self) -> bool
+        ensures { result ≡ varies self.now }
+    {
+        read_context(self.steps.as_slice())
+    }
+
+    /// How many different subtrees the field has.
+    pub fn distinct(&self) -> u32
+        ensures { result ≡ count_different (self.now ∷ []) }
+    {
+        self.steps.as_slice().len() as u32
+    }
+
+    /// The kind of the field's values.
+    pub fn kind(&self) -> ValueKind
+        ensures { result ≡ kind_of_field S.sources self.now }
+    {
+        last_kind(self.steps.as_slice())
+    }
+
+    /// How many different subtrees all these fields have.
+    pub fn together(alloc: Global, fields: &[Field<S>]) -> Result<u32, Memory>
+        requires { length fields.now ≤ 65536 }
+        ensures { IfOk result (λ n. n ≡ count_different fields.now) }
+    {
+        let Gathered { steps, .. } = gather(alloc, fields)?;
+        Ok(steps.len() as u32)
+    }
+
+    /// The field's different subtrees: each names earlier ones by their places, and the last is the
+    /// field. No two are the same, and arguments have the kinds that are taken.
+    pub fn steps(&self) -> &[FieldStep<S>]
+        ensures field { last_of (built result.now) ≡ self.now }
+        ensures count { length result.now ≡ count_different (self.now ∷ []) }
+        ensures merged { IsMerged result.now }
+        ensures kinds { HasKinds S.sources S.taken self.now }
+    {
+        self.steps.as_slice()
+    }
+}
