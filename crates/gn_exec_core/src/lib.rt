@@ -1,0 +1,16 @@
+//! The core of the executor: what it asks of a set of nodes.
+//!
+//! `NodeSet` is a trait of the code that runs nodes, with the meanings of its kinds and values for
+//! contracts. Each call promises that meaning: role, file, choice, opening, row and conversion; a
+//! second value that is the same; one run noted for each run; and no copy noted where nothing is
+//! shared. `handed` gives what a link carries, while the value stays. `LawsOf` hands the meanings to the
+//! laws of the executor's machine. The crate stands on `gn_exec_laws`, on `gn_uses`, whose roles and
+//! choices these are, on `gn_lazy`, `gn_node_set`, `gn_shared` and `gn_memory`.
+#![tactic(auto)]
+
+pub mod node_set;
+pub mod values;
+
+pub use gn_uses::{Choice, Role};
+pub use node_set::{LawsOf, NodeSet, handed};
+pub use values::{Answer, Done, Opened, Warning, WarningText};
