@@ -10,3 +10,5 @@ pub mod Tasks
 pub mod Raised
 pub mod Inner
 pub mod Opens
+mod Examples
+mod Witness
