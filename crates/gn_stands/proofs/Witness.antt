@@ -11,6 +11,7 @@ use Rattle.gn_meaning.specs.Sites.{Way, the_tree, into, plain_step}
 use Rattle.gn_meaning.specs.Bodies.{Body, body_of, body_at}
 use Rattle.gn_rules.specs.Sockets.{node_at}
 use Rattle.gn_meaning.specs.Reads.{Run, Part, a_node, a_repeat, part_in, part_at}
+use Rattle.gn_meaning.specs.There.{LeadsTo}
 use Rattle.gn_stands.specs.Stands.{KnowsZones}
 use Rattle.gn_stands.specs.Zones.{opened_within}
 use Rattle.gn_stands.specs.Claims.{OpenAsFound}
@@ -139,14 +140,14 @@ opens_as_found way outer n run b head leads e =
 pub knows_zones : KnowsZones two_turns.rows small
 knows_zones = record { zones = zones; others = others }
   where
-    zones : (way : Way) (n : ℕ) (run : Run) (b : Body) → part_at small way n ≡ Some (a_repeat run b) → role_of run.kind ≡ Zone
-    zones way n run b e =
+    zones : (way : Way) (outer : Body) (n : ℕ) (run : Run) (b : Body) → LeadsTo small way outer → part_at small way n ≡ Some (a_repeat run b) → role_of run.kind ≡ Zone
+    zones way outer n run b leads e =
         let place : (way ≡ the_tree) × (n ≡ 3) = one_zone way n run b e in
         let at : part_at small the_tree 3 ≡ Some (a_repeat run b) = sym (λ i. part_at small (place.0 i) (place.1 i)) ∙ e in
         sym (ap role_at at)
 
-    others : (way : Way) (n : ℕ) (run : Run) → part_at small way n ≡ Some (a_node run) → role_of run.kind ≢ Zone
-    others way n run e zone = elim (known way) [
+    others : (way : Way) (outer : Body) (n : ℕ) (run : Run) → LeadsTo small way outer → part_at small way n ≡ Some (a_node run) → role_of run.kind ≢ Zone
+    others way outer n run leads e zone = elim (known way) [
       | inl none ↦ in_none (body_at small way) none e
       | inr (inl group) ↦ in_group n (sym (ap (λ o. list_of o way n) group) ∙ e)
       | inr (inr (inl inner)) ↦ in_zone n (sym (ap (λ o. list_of o way n) inner) ∙ e)
