@@ -45,7 +45,7 @@ lower y n h other = elim (cases y n h) as (λ _. y < n) [ inl less ↦ less | in
     cases : (a b : ℕ) → a < suc b → (a < b) ⊎ (a ≡ b)
     cases a b k = grind arith
 
-few : (n : ℕ) (xs : List ℕ) → AllDiffer xs → ((x : ℕ) → Has xs x → x < n) → length xs ≤ n
+pub few : (n : ℕ) (xs : List ℕ) → AllDiffer xs → ((x : ℕ) → Has xs x → x < n) → length xs ≤ n
 unfolding Without
 few zero [] d below = omega arith
 few zero (x ∷ xs) d below = absurd (let bad : x < 0 = below x (inl refl) in omega (arith, bad))

@@ -13,17 +13,18 @@ use Rattle.gn_meaning.specs.Sites.{Way, the_tree, path_of, Site, at_output, at_i
 use Rattle.gn_meaning.specs.Reads.{Run, run_in, run_of}
 use Rattle.gn_meaning.specs.Forms.{HasForm}
 use Rattle.gn_meaning.specs.There.{IsThere}
+use Rattle.gn_meaning.specs.Origins.{origin_within}
 use Rattle.gn_meaning.specs.Denotation.{Given, read_value, value_within, StandsAt, Ends}
 use Rattle.gn_meaning.specs.Demand.{Wanted, Demanded, ListsDemand, output_read}
 use Rattle.gn_meaning.specs.Enough.{GivesAll}
 use Rattle.gn_meaning.specs.Report.{IsReport, Warns, no_run, and_run}
-use Rattle.gn_meaning.proofs.Options.{some_same, map_some}
+use Rattle.gn_meaning.proofs.Options.{some_same, then_some, map_some}
 use Rattle.gn_meaning.proofs.Origins.{one_origin}
 use Rattle.gn_meaning.proofs.Values.{one_end}
 use Rattle.gn_meaning.proofs.Paths.{path_names_node, path_of_run}
 use Rattle.gn_meaning.proofs.WantedThere.{output_there}
 use Rattle.gn_meaning.proofs.Meanings.{ends_there}
-use Rattle.gn_stands.specs.Sources.{source_at, CarriesSite, Carries, CarryAll}
+use Rattle.gn_stands.specs.Sources.{link_at, source_at, CarriesSite, Carries, CarryAll}
 use Rattle.gn_stands.specs.Stands.{KnowsZones, IsNodeOf, StandsFor, ZonesOpen}
 use Rattle.gn_stands.specs.Claims.{IsRun, own_list, group_list, turn_list, IsRunSite, TurnsBy, node_done, NodesWarn, no_node, and_node, IsNodesReport, Agrees}
 use Rattle.gn_stands.proofs.Near.{out_in}
@@ -93,10 +94,11 @@ module _ {V S T : Type 0} (m : Meanings Kind V S T) (given : Given V) (t : Tree)
   site_reached nowhere r = tt
 
   values : (site : Site) (v : V) (link : Link V) → IsThere t site → IsRunSite t Turned site → StandsAt m.rows given t site v → CarriesSite given t site link → val m given t task den keeps form knows stands opens solves link ≡ v
-  values site v link there is (j, h) (origin, from, e) =
-      let x : (x : Source V) × (source_at given origin.from ≡ Some x) × (record { from = x; through = origin.through } ≡ link) = map_some (λ x. record { from = x; through = origin.through }) (source_at given origin.from) link e in
+  values site v link there is (j, h) (k, e) =
+      let o : (origin : Read) × (origin_within t k site ≡ Some origin) × (link_at given origin ≡ Some link) = then_some (link_at given) (origin_within t k site) link e in
+      let x : (x : Source V) × (source_at given o.0.from ≡ Some x) × (record { from = x; through = o.0.through } ≡ link) = map_some (λ x. record { from = x; through = o.0.through }) (source_at given o.0.from) link o.2 in
       ap (val m given t task den keeps form knows stands opens solves) (sym x.2)
-      ∙ right m given t task den keeps form knows stands opens solves j site there (site_reached site is) v h origin from x.0 x.1
+      ∙ right m given t task den keeps form knows stands opens solves j site there (site_reached site is) v h o.0 (k, o.1) x.0 x.1
 
   output : (k : ℕ) (v : V) → read_value m.rows given t (value_within m.rows given t k) (output_read t) ≡ Some v → map (val m given t task den keeps form knows stands opens solves) task.roots ≡ v ∷ []
   output k v e =

@@ -180,7 +180,7 @@ module _ {V S T : Type 0} (m : Meanings Kind V S T) (given : Given V) (t : Tree)
       let often : zone_turns zone.0 ≡ m.rows.turns run.kind v = same_turns way n run b zone.0 v e h.reached zone.2 g in
       let link : (link : Link V) × (slice_get (result_links m value_of zone.0) s ≡ Some link) × Carries given t (plain_read (at_item way n (zone_turns zone.0) s)) link =
       result_at m given t task den keeps form knows stands opens solves way n s run b zone.0 h.reached e zone.2 (item_below m given t task den keeps form knows stands opens solves way n (m.rows.turns run.kind v) s run b there e) in
-      let wanted : GraphWants link.0.from = a_result_link zone.0 s link.0 zone.1 (is_zone m given t task den keeps form knows stands opens solves way n run b zone.0 e zone.2) (node_wanted way n s run zone.0 is_run zone.2 h) link.1 in
+      let wanted : GraphWants link.0.from = a_result_link zone.0 s link.0 zone.1 (is_zone m given t task den keeps form knows stands opens solves way n run b zone.0 h.reached e zone.2) (node_wanted way n s run zone.0 is_run zone.2 h) link.1 in
       subst (λ k. InGraph (at_item way n k s)) often
       (read_in_graph (plain_read (at_item way n (zone_turns zone.0) s)) link.0 (item_reached m given t task den keeps form knows stands opens solves way n s run b zone.0 h.reached e zone.1 zone.2) link.2 wanted)
 
@@ -284,7 +284,7 @@ module _ {V S T : Type 0} (m : Meanings Kind V S T) (given : Given V) (t : Tree)
   result_comes : (node : Node Kind V) (k : ℕ) (link : Link V) (p : Path) (s : ℕ) → Nodes node → m.rows.role node.kind ≡ Zone → Comes node.path k → slice_get (result_links m value_of node) k ≡ Some link → link.from ≡ an_output_of p s → Comes p s
   result_comes node k link p s there role c got e =
       let is : IsNodeOf given t c.run node = is_its_node node k c there in
-      let b : (b : Body) × (part_at t c.way c.n ≡ Some (a_repeat c.run b)) = repeat_part m given t task den knows stands opens c.way c.n c.run node c.is_run is role in
+      let b : (b : Body) × (part_at t c.way c.n ≡ Some (a_repeat c.run b)) = repeat_part m given t task den knows stands opens c.way c.n c.run node (forward c.wanted).reached c.is_run is role in
       let value : HasOneValue m.rows given t (at_output c.way c.n k) = one_there m.rows given t form keeps all (at_output c.way c.n k) (there_of c.wanted) in
       let h : (h : V) × Gives m.rows given t c.run 0 h = zone_gave m given t c.way c.n k c.run b.0 value.0 b.1 value.1 in
       let reached : Reached c.way = (forward c.wanted).reached in

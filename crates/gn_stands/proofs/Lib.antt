@@ -6,7 +6,10 @@ pub mod Right
 pub mod Demand
 pub mod Agree
 pub mod Ranked
+pub mod Walks
 pub mod Tasks
 pub mod Raised
 pub mod Inner
 pub mod Opens
+mod Examples
+mod Witness

@@ -16,14 +16,14 @@ use Rattle.gn_meaning.specs.Bodies.{Body, body_at}
 use Rattle.gn_meaning.specs.Reads.{read_at, Run, a_node, a_repeat, run_in, part_at, run_of}
 use Rattle.gn_meaning.specs.Forms.{HasForm}
 use Rattle.gn_meaning.specs.There.{LeadsTo, into_group, into_turn, IsThere}
-use Rattle.gn_meaning.specs.Origins.{origin_within, ComesFrom}
+use Rattle.gn_meaning.specs.Origins.{read_origin, origin_within, ComesFrom}
 use Rattle.gn_meaning.specs.Denotation.{Given}
 use Rattle.gn_meaning.proofs.Options.{some_same, then_some, map_some}
 use Rattle.gn_meaning.proofs.Origins.{one_origin}
 use Rattle.gn_meaning.proofs.OriginsExist.{origin_exists}
 use Rattle.gn_meaning.proofs.Paths.{path_of_run}
 use Rattle.gn_meaning.proofs.WantedThere.{part_there}
-use Rattle.gn_stands.specs.Sources.{source_at, Carries, CarryAll}
+use Rattle.gn_stands.specs.Sources.{source_at, link_at, Carries, CarryAll}
 use Rattle.gn_stands.specs.Stands.{Unfolds, the_list, in_group, IsNodeOf, AreRuns, InTurns, items_after, OpensFor}
 use Rattle.gn_stands.specs.Tasks.{runs_within}
 use Rattle.gn_stands.specs.Zones.{place_by, zone_inside, list_in, inner_within, inner_source, inner_link, inner_read, inner_node, inner_nodes, turns_within, opened_at, opened_within}
@@ -56,14 +56,15 @@ module _ {V : Type 0} (given : Given V) (t : Tree) where
   Unpacked r link = (o : Read) × ComesFrom t r.from o × (source_at given o.from ≡ Some link.from) × (link.through ≡ o.through ++ r.through)
 
   unpack : (r : Read) (link : Link V) → Carries given t r link → Unpacked r link
-  unpack r link (origin, (k, e), f) =
-      let o : (o : Read) × (origin_within t k r.from ≡ Some o) × (beyond o r ≡ origin) = map_some (λ o. beyond o r) (origin_within t k r.from) origin e in
-      let x : (x : Source V) × (source_at given origin.from ≡ Some x) × (record { from = x; through = origin.through } ≡ link) = map_some (λ x. record { from = x; through = origin.through }) (source_at given origin.from) link f in
+  unpack r link (k, h) =
+      let e : (origin : Read) × (read_origin t (origin_within t k) r ≡ Some origin) × (link_at given origin ≡ Some link) = then_some (link_at given) (read_origin t (origin_within t k) r) link h in
+      let o : (o : Read) × (origin_within t k r.from ≡ Some o) × (beyond o r ≡ e.0) = map_some (λ o. beyond o r) (origin_within t k r.from) e.0 e.1 in
+      let x : (x : Source V) × (source_at given e.0.from ≡ Some x) × (record { from = x; through = e.0.through } ≡ link) = map_some (λ x. record { from = x; through = e.0.through }) (source_at given e.0.from) link e.2 in
       (o.0, (k, o.1), ap (λ q. source_at given q.from) o.2 ∙ x.1 ∙ ap (λ l. Some l.from) x.2, ap (λ l. l.through) (sym x.2) ∙ ap (λ q. q.through) (sym o.2))
 
   pack : (r whole : Read) (link : Link V) → ComesFrom t r.from whole → source_at given whole.from ≡ Some link.from → whole.through ++ r.through ≡ link.through → Carries given t r link
   pack r whole link (k, h) source through =
-      (beyond whole r, (k, ap (option_map (λ o. beyond o r)) h), ap (option_map (λ x. record { from = x; through = whole.through ++ r.through })) source ∙ (λ i. Some (record { from = link.from; through = through i })))
+      (k, ap (option_and_then (link_at given)) (ap (option_map (λ o. beyond o r)) h) ∙ ap (option_map (λ x. record { from = x; through = whole.through ++ r.through })) source ∙ (λ i. Some (record { from = link.from; through = through i })))
 
 module _ {V S T : Type 0} (m : Meanings Kind V S T) (given : Given V) (t : Tree) (keeps : KeepsRules t) (form : HasForm t) (zone_way : Way) (outer : Body) (zone_number : ℕ) (zone_run : Run) (inside : Body) (leads : LeadsTo t zone_way outer) (at : part_at t zone_way zone_number ≡ Some (a_repeat zone_run inside)) (zone : Node Kind V) (is : IsNodeOf given t zone_run zone) where
   abbrev kind : Kind

@@ -233,8 +233,8 @@ module _ {V S T : Type 0} (m : Meanings Kind V S T) (given : Given V) (t : Tree)
   -- ---- nodes and runs
 
   module _ (knows : KnowsZones m.rows t) (stands : StandsFor given t task) (opens : ZonesOpen given t m) where
-    pub zone_role : (way : Way) (n : ℕ) (run : Run) (b : Body) (zone : Node Kind V) → part_at t way n ≡ Some (a_repeat run b) → IsNodeOf given t run zone → m.rows.role zone.kind ≡ Zone
-    zone_role way n run b zone e is = ap m.rows.role is.kind ∙ knows.zones way n run b e
+    pub zone_role : (way : Way) (n : ℕ) (run : Run) (b : Body) (zone : Node Kind V) → Reaches way → part_at t way n ≡ Some (a_repeat run b) → IsNodeOf given t run zone → m.rows.role zone.kind ≡ Zone
+    zone_role way n run b zone reached e is = ap m.rows.role is.kind ∙ knows.zones way (leads_to reached).0 n run b (leads_to reached).1 e
 
     pub opened : {way : Way} (n : ℕ) (run : Run) (b : Body) (zone : Node Kind V) → Reaches way → part_at t way n ≡ Some (a_repeat run b) → IsNodeOf given t run zone → OpensFor given t m way n b zone (head zone)
     opened {way} n run b zone r e is = opens way (leads_to r).0 n run b zone (head zone) (leads_to r).1 e is
@@ -264,7 +264,7 @@ module _ {V S T : Type 0} (m : Meanings Kind V S T) (given : Given V) (t : Tree)
         by_list (inr (outer, j, k, reached, turns, u)) =
             let o : OpensFor given t m outer j turns.body turns.zone (head turns.zone) = opened j turns.run turns.body turns.zone reached turns.part turns.is in
             let x : (node : Node Kind V) × Has (turn_nodes m (link_value m den) turns.zone) node × IsNodeOf given t run node = o.nodes.each way n run (k, turns.often, u) e in
-            (x.0, of_a_turn turns.zone turns.there (zone_role outer j turns.run turns.body turns.zone turns.part turns.is) x.1, x.2)
+            (x.0, of_a_turn turns.zone turns.there (zone_role outer j turns.run turns.body turns.zone reached turns.part turns.is) x.1, x.2)
 
     unfolds_reached : {outer way : Way} → Reaches outer → Unfolds t outer way → Reaches way
     unfolds_reached r the_list = r
@@ -273,9 +273,9 @@ module _ {V S T : Type 0} (m : Meanings Kind V S T) (given : Given V) (t : Tree)
     abbrev pub HasRun : Node Kind V → Type 0
     HasRun node = (way : Way) × (n : ℕ) × (run : Run) × Reaches way × (run_of t (at_output way n 0) ≡ Some run) × IsNodeOf given t run node
 
-    pub repeat_part : (way : Way) (n : ℕ) (run : Run) (zone : Node Kind V) → run_of t (at_output way n 0) ≡ Some run → IsNodeOf given t run zone → m.rows.role zone.kind ≡ Zone → (b : Body) × (part_at t way n ≡ Some (a_repeat run b))
-    repeat_part way n run zone e is role = elim (part_of_run t way n 0 run e) [
-      | inl plain ↦ absurd (knows.others way n run plain (ap m.rows.role (sym is.kind) ∙ role))
+    pub repeat_part : (way : Way) (n : ℕ) (run : Run) (zone : Node Kind V) → Reaches way → run_of t (at_output way n 0) ≡ Some run → IsNodeOf given t run zone → m.rows.role zone.kind ≡ Zone → (b : Body) × (part_at t way n ≡ Some (a_repeat run b))
+    repeat_part way n run zone reached e is role = elim (part_of_run t way n 0 run e) [
+      | inl plain ↦ absurd (knows.others way (leads_to reached).0 n run (leads_to reached).1 plain (ap m.rows.role (sym is.kind) ∙ role))
       | inr x ↦ x
     ]
 
@@ -286,7 +286,7 @@ module _ {V S T : Type 0} (m : Meanings Kind V S T) (given : Given V) (t : Tree)
         (x.0, x.1, x.2, unfolds_reached own_list x.3, x.4, x.5)
     node_has_run {node} (of_a_turn zone u role h) =
         let z : HasRun zone = node_has_run u in
-        let p : (b : Body) × (part_at t z.0 z.1 ≡ Some (a_repeat z.2 b)) = repeat_part z.0 z.1 z.2 zone z.4 z.5 role in
+        let p : (b : Body) × (part_at t z.0 z.1 ≡ Some (a_repeat z.2 b)) = repeat_part z.0 z.1 z.2 zone z.3 z.4 z.5 role in
         let o : OpensFor given t m z.0 z.1 p.0 zone (head zone) = opened z.1 z.2 p.0 zone z.3 p.1 z.5 in
         let x : (way : Way) × (n : ℕ) × (run : Run) × InTurns given t z.0 z.1 (m.rows.turns zone.kind (head zone)) way × (run_of t (at_output way n 0) ≡ Some run) × IsNodeOf given t run node = o.nodes.only node h in
         let turns : TurnsTo z.0 z.1 (λ often. x.3.0 < often) = record {

@@ -16,13 +16,13 @@ use Rattle.gn_meaning.specs.Bodies.{Body}
 use Rattle.gn_meaning.specs.Reads.{read_at, Run, a_node, a_repeat, run_in, part_at, run_of}
 use Rattle.gn_meaning.specs.Forms.{HasForm}
 use Rattle.gn_meaning.specs.There.{LeadsTo, IsThere}
-use Rattle.gn_meaning.specs.Origins.{origin_within, ComesFrom}
+use Rattle.gn_meaning.specs.Origins.{read_origin, origin_within, ComesFrom}
 use Rattle.gn_meaning.specs.Denotation.{Given, read_value, read_values, choice_by, choice_in, done_for, run_done, run_output, output_value, turn_value, input_value, value_within}
 use Rattle.gn_meaning.specs.Demand.{a_result}
 use Rattle.gn_meaning.proofs.Options.{some_same, then_some, map_some}
 use Rattle.gn_meaning.proofs.Paths.{path_of_run}
 use Rattle.gn_meaning.proofs.WantedThere.{part_there}
-use Rattle.gn_stands.specs.Sources.{source_at, Carries}
+use Rattle.gn_stands.specs.Sources.{link_at, source_at, Carries}
 use Rattle.gn_stands.specs.Stands.{KnowsZones, IsNodeOf, StandsFor, items_after, OpensFor, ZonesOpen}
 use Rattle.gn_stands.proofs.Near.{has_in}
 use Rattle.gn_stands.proofs.Leads.{beyond, IsOwn, Found, leads_on, itself, a_number, found, led_value}
@@ -69,9 +69,10 @@ module _ {V S T : Type 0} (m : Meanings Kind V S T) (given : Given V) (t : Tree)
     pub through : link.through ≡ origin.through ++ r.through
 
   pub split : (r : Read) (link : Link V) → Carries given t r link → Split r link
-  split r link (origin, (k, e), f) =
-      let o : (o : Read) × (origin_within t k r.from ≡ Some o) × (beyond o r ≡ origin) = map_some (λ o. beyond o r) (origin_within t k r.from) origin e in
-      let x : (x : Source V) × (source_at given origin.from ≡ Some x) × (record { from = x; through = origin.through } ≡ link) = map_some (λ x. record { from = x; through = origin.through }) (source_at given origin.from) link f in
+  split r link (k, h) =
+      let e : (origin : Read) × (read_origin t (origin_within t k) r ≡ Some origin) × (link_at given origin ≡ Some link) = then_some (link_at given) (read_origin t (origin_within t k) r) link h in
+      let o : (o : Read) × (origin_within t k r.from ≡ Some o) × (beyond o r ≡ e.0) = map_some (λ o. beyond o r) (origin_within t k r.from) e.0 e.1 in
+      let x : (x : Source V) × (source_at given e.0.from ≡ Some x) × (record { from = x; through = e.0.through } ≡ link) = map_some (λ x. record { from = x; through = e.0.through }) (source_at given e.0.from) link e.2 in
       record {
         origin = o.0;
         from = (k, o.1);
@@ -176,7 +177,7 @@ module _ {V S T : Type 0} (m : Meanings Kind V S T) (given : Given V) (t : Tree)
   pub node_path : (way : Way) (n s : ℕ) (run : Run) (node : Node Kind V) → run_of t (at_output way n s) ≡ Some run → IsNodeOf given t run node → node.path ≡ path_of way n
   node_path way n s run node e is = is.path ∙ path_of_run t way n s run e
 
-  pub is_zone : (way : Way) (n : ℕ) (run : Run) (b : Body) (zone : Node Kind V) → part_at t way n ≡ Some (a_repeat run b) → IsNodeOf given t run zone → m.rows.role zone.kind ≡ Zone
+  pub is_zone : (way : Way) (n : ℕ) (run : Run) (b : Body) (zone : Node Kind V) → Reaches m given t task den way → part_at t way n ≡ Some (a_repeat run b) → IsNodeOf given t run zone → m.rows.role zone.kind ≡ Zone
   is_zone = zone_role m given t task den knows stands opens
 
   abbrev pub head_of_zone : Node Kind V → V
@@ -217,7 +218,7 @@ module _ {V S T : Type 0} (m : Meanings Kind V S T) (given : Given V) (t : Tree)
         let same : done_of node.0 ≡ done.0 = run_right j right run node.0 done.0 node.2 (all_there way n s run reached is_run) done.1 in
         let outs : den (path_of way n) ≡ done.0.outputs =
         ap den (sym (node_path way n s run node.0 is_run node.2))
-        ∙ solves.rows node.0 node.1 (λ z. knows.others way n run e (ap m.rows.role (sym node.2.kind) ∙ z))
+        ∙ solves.rows node.0 node.1 (λ z. knows.others way (leads_to m given t task den reached).0 n run (leads_to m given t task den reached).1 e (ap m.rows.role (sym node.2.kind) ∙ z))
         ∙ ap (λ d. d.outputs) same in
         ap (λ vs. slice_index_or vs s m.nothing) outs ∙ index_at done.0.outputs s m.nothing w done.2
 
@@ -227,7 +228,7 @@ module _ {V S T : Type 0} (m : Meanings Kind V S T) (given : Given V) (t : Tree)
         let is_run : run_of t (at_output way n s) ≡ Some run = ap (option_and_then run_in) e in
         let done : (done : Done V) × (run_done m.rows given t (values j) run ≡ Some done) × (slice_get done.outputs 0 ≡ Some v) = then_some (λ done. slice_get done.outputs 0) (run_done m.rows given t (values j) run) v h in
         let same : done_of zone ≡ done.0 = run_right j right run zone done.0 is (all_there way n s run reached is_run) done.1 in
-        let unasked : None ≡ answer_of m (told_by m given.files) zone = sym (ap (λ role. answer_for role (given.files (m.rows.file zone.kind))) (is_zone way n run b zone e is)) in
+        let unasked : None ≡ answer_of m (told_by m given.files) zone = sym (ap (λ role. answer_for role (given.files (m.rows.file zone.kind))) (is_zone way n run b zone reached e is)) in
         ap (λ a. slice_index_or (node_run m val a zone).outputs 0 m.nothing) unasked
         ∙ ap (λ d. slice_index_or d.outputs 0 m.nothing) same
         ∙ index_at done.0.outputs 0 m.nothing v done.2
@@ -248,7 +249,7 @@ module _ {V S T : Type 0} (m : Meanings Kind V S T) (given : Given V) (t : Tree)
         let value : values j (at_item way n (turns_of zone.0) s) ≡ Some w = ap (λ k. values j (at_item way n k s)) often ∙ v.2 in
         let carried : val link.0 ≡ w =
         read_right j right (plain_read (at_item way n (turns_of zone.0) s)) link.0 w item (item_reached way n s run b zone.0 reached e zone.1 zone.2) link.2 (ap (option_map (λ u. converted m.rows u [])) value) in
-        ap (λ vs. slice_index_or vs s m.nothing) (ap den (sym (node_path way n s run zone.0 is_run zone.2)) ∙ solves.zones zone.0 zone.1 (is_zone way n run b zone.0 e zone.2))
+        ap (λ vs. slice_index_or vs s m.nothing) (ap den (sym (node_path way n s run zone.0 is_run zone.2)) ∙ solves.zones zone.0 zone.1 (is_zone way n run b zone.0 reached e zone.2))
         ∙ index_at (map val (result_links m val zone.0)) s m.nothing w (at_image val (result_links m val zone.0) s link.0 link.1 ∙ ap Some carried)
 
     own_right : (site : Site) → IsThere t site → Open site → IsOwn t site → (w : V) → values (suc j) site ≡ Some w → (x : Source V) → source_at given site ≡ Some x → source_value m den x ≡ w

@@ -14,11 +14,10 @@ use Rattle.gn_exec_laws.specs.Graphs.{Task}
 use Rattle.gn_meaning.specs.Sites.{Way, the_tree, into, plain_step, at_output, Read}
 use Rattle.gn_meaning.specs.Bodies.{Body, body_at}
 use Rattle.gn_meaning.specs.Reads.{Run, Part, a_node, a_group, a_repeat, run_in, part_in, part_at, run_of}
-use Rattle.gn_meaning.specs.Origins.{read_origin, origin_within}
 use Rattle.gn_meaning.specs.Denotation.{Given}
 use Rattle.gn_meaning.specs.Demand.{output_read}
 use Rattle.gn_meaning.proofs.Options.{some_same, then_some, map_some}
-use Rattle.gn_stands.specs.Sources.{link_at, read_within, Carries, CarryAll}
+use Rattle.gn_stands.specs.Sources.{read_within, CarryAll}
 use Rattle.gn_stands.specs.Stands.{Unfolds, the_list, in_group, IsNodeOf, AreRuns, StandsFor}
 use Rattle.gn_stands.specs.Order.{by_rank}
 use Rattle.gn_stands.specs.Tasks.{order_at, part_runs, runs_within, links_within, node_within, nodes_within, task_within}
@@ -141,18 +140,13 @@ module _ (t : Tree) where
 -- ---- nodes
 
 module _ {V : Type 0} (given : Given V) (t : Tree) (k : ℕ) where
-  read_carries : (r : Read) (link : Link V) → read_within given t k r ≡ Some link → Carries given t r link
-  read_carries r link e =
-      let o : (o : Read) × (read_origin t (origin_within t k) r ≡ Some o) × (link_at given o ≡ Some link) = then_some (link_at given) (read_origin t (origin_within t k) r) link e in
-      (o.0, (k, o.1), o.2)
-
   pub links_carry : (rs : List Read) (links : List (Link V)) → links_within given t k rs ≡ Some links → CarryAll given t rs links
   links_carry [] links e = subst (CarryAll given t []) (some_same e) tt
   links_carry (r ∷ rs) links e =
       let link : (link : Link V) × (read_within given t k r ≡ Some link) × (option_map (λ ls. link ∷ ls) (links_within given t k rs) ≡ Some links) =
       then_some (λ l. option_map (λ ls. l ∷ ls) (links_within given t k rs)) (read_within given t k r) links e in
       let rest : (ls : List (Link V)) × (links_within given t k rs ≡ Some ls) × (link.0 ∷ ls ≡ links) = map_some (λ ls. link.0 ∷ ls) (links_within given t k rs) links link.2 in
-      subst (CarryAll given t (r ∷ rs)) rest.2 (read_carries r link.0 link.1, links_carry rs rest.0 rest.1)
+      subst (CarryAll given t (r ∷ rs)) rest.2 ((k, link.1), links_carry rs rest.0 rest.1)
 
   node_is : (run : Run) (x : Node Kind V) → node_within given t k run ≡ Some x → IsNodeOf given t run x
   node_is run x e =

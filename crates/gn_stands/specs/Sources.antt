@@ -3,7 +3,7 @@ use Rattle.std.specs.Prelude.{◌≡◌, ℕ, List, [], ◌∷◌, Option, Some,
 use Rattle.gn_tree.specs.Trees.{Tree}
 use Rattle.gn_node_set.specs.Meanings.{Source, a_value, an_output, Link}
 use Rattle.gn_meaning.specs.Sites.{the_tree, path_of, Site, at_output, at_input, at_constant, Read}
-use Rattle.gn_meaning.specs.Origins.{read_origin, origin_within, ComesFrom, IsReadFrom}
+use Rattle.gn_meaning.specs.Origins.{read_origin, origin_within}
 use Rattle.gn_meaning.specs.Denotation.{Given}
 
 module _ {V : Type 0} (given : Given V) where
@@ -28,10 +28,10 @@ module _ {V : Type 0} (given : Given V) where
 
     -- the link carries what stands at the site, and what an input reads
     abbrev pub CarriesSite : Site → Link V → Type 0
-    CarriesSite site link = (origin : Read) × ComesFrom t site origin × (link_at origin ≡ Some link)
+    CarriesSite site link = (k : ℕ) × (source_within k site ≡ Some link)
 
     abbrev pub Carries : Read → Link V → Type 0
-    Carries r link = (origin : Read) × IsReadFrom t r origin × (link_at origin ≡ Some link)
+    Carries r link = (k : ℕ) × (read_within k r ≡ Some link)
 
     abbrev pub CarryAll : List Read → List (Link V) → Type 0
     CarryAll [] [] = Unit {0}

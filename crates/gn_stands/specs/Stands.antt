@@ -18,10 +18,10 @@ pub data Unfolds (t : Tree) (outer : Way) : Way → Type 0 where
   the_list : Unfolds t outer outer
   in_group : {way : Way} (n : ℕ) (b : Body) (reads : List Read) → Unfolds t outer way → part_at t way n ≡ Some (a_group b reads) → Unfolds t outer (into way (plain_step n))
 
--- by the rows just the zones of the tree are zones
+-- by the rows just the zones in the lists of the tree are zones
 pub record KnowsZones {V : Type 0} (rows : Rows Kind V) (t : Tree) : Type 0 where
-  pub zones : (way : Way) (n : ℕ) (run : Run) (b : Body) → part_at t way n ≡ Some (a_repeat run b) → rows.role run.kind ≡ Zone
-  pub others : (way : Way) (n : ℕ) (run : Run) → part_at t way n ≡ Some (a_node run) → rows.role run.kind ≢ Zone
+  pub zones : (way : Way) (outer : Body) (n : ℕ) (run : Run) (b : Body) → LeadsTo t way outer → part_at t way n ≡ Some (a_repeat run b) → rows.role run.kind ≡ Zone
+  pub others : (way : Way) (outer : Body) (n : ℕ) (run : Run) → LeadsTo t way outer → part_at t way n ≡ Some (a_node run) → rows.role run.kind ≢ Zone
 
 -- the items of a zone after some turns
 abbrev pub items_after : Way → ℕ → ℕ → Body → List Read

@@ -1,5 +1,6 @@
 ghost use Rattle.gn_tree.specs.NodeKinds.{Kind};
 ghost use Rattle.gn_node_set.specs.Meanings.{Meanings};
+ghost use Rattle.gn_stands.specs.Order.{RanksOrderBack};
 ghost use Rattle.gn_stands.specs.Claims.{StandingAgrees, FoundGraphsStand, FoundZonesOpen};
 
 /// What the kinds of nodes of trees do, for contracts alone: the types of values, of their sorts and of
@@ -31,4 +32,10 @@ pub fn found_graphs_stand<N: TreeMeanings>()
 /// are all that it has of the tree, its zones open for their turns.
 pub fn found_zones_open<N: TreeMeanings>()
     ensures { FoundZonesOpen N.meanings }
+{}
+
+/// In the order by rank each node stands once, behind all nodes that it leads to, where no node leads
+/// back to itself.
+pub fn ranks_order_back()
+    ensures { RanksOrderBack }
 {}

@@ -39,5 +39,6 @@ fn the_laws_can_be_called_at_meanings(_rt: HostRuntime) -> Result<(), Fail> {
     standing_agrees::<NoValues>();
     found_graphs_stand::<NoValues>();
     found_zones_open::<NoValues>();
+    ranks_order_back();
     Ok(())
 }
