@@ -175,29 +175,29 @@ set_up_told File c a h = refl
 set_up_told Zone c a h = h
 
 module _ (g : Nodes) (n : ℕ) (there : n < length g.answered) where
-  abbrev told : Nodes
-  told = with_answer g n
+  abbrev reported : Nodes
+  reported = with_answer g n
 
-  told_elsewhere : (k : ℕ) → k ≢ n → is_full told k ≡ is_full g k
-  told_elsewhere k d = ap (λ a. all_set (selected (role_of (role g k)) (choice_of (choice g k)) (filled g k)) && is_set_up (role g k) (choice g k) a) (get_or-set_other g.answered n k true false d)
+  reported_elsewhere : (k : ℕ) → k ≢ n → is_full reported k ≡ is_full g k
+  reported_elsewhere k d = ap (λ a. all_set (selected (role_of (role g k)) (choice_of (choice g k)) (filled g k)) && is_set_up (role g k) (choice g k) a) (get_or-set_other g.answered n k true false d)
 
-  told_here : IsTrue (is_full g n) → IsTrue (is_full told n)
-  told_here h =
-      let now : answered told n ≡ true = get_or-set_same g.answered n true false there in
+  reported_here : IsTrue (is_full g n) → IsTrue (is_full reported n)
+  reported_here h =
+      let now : answered reported n ≡ true = get_or-set_same g.answered n true false there in
       let all = all_set (selected (role_of (role g n)) (choice_of (choice g n)) (filled g n)) in
       let rest = is_set_up (role g n) (choice g n) (answered g n) in
-      both all (is_set_up (role g n) (choice g n) (answered told n)) (and_left all rest h)
+      both all (is_set_up (role g n) (choice g n) (answered reported n)) (and_left all rest h)
       (subst (λ a. IsTrue (is_set_up (role g n) (choice g n) a)) (sym now) (set_up_told (role g n) (choice g n) (answered g n) (and_right all rest h)))
 
-  pub answer_raises : Raised g told n
+  pub answer_raises : Raised g reported n
   answer_raises = record {
-    grows = same_grows g told (λ x h. h) (λ k. refl) (λ x. refl);
+    grows = same_grows g reported (λ x h. h) (λ k. refl) (λ x. refl);
     roots = λ x h. h;
     inside = λ x h. h;
     needs = λ k. refl;
     led = λ x. refl;
-    full = told_elsewhere;
-    more = told_here;
+    full = reported_elsewhere;
+    more = reported_here;
   }
 
 pub answer_whole : (g : Nodes) (n : ℕ) → AreWhole g → AreWhole (with_answer g n)

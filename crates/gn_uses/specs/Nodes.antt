@@ -74,9 +74,9 @@ all_set (flag ∷ flags) = flag && all_set flags
 
 -- a switch has chosen, and an import has its answer
 abbrev pub is_set_up : Role → Option Choice → Bool → Bool
-is_set_up Switch chosen told = is_some chosen
-is_set_up File chosen told = told
-is_set_up _ chosen told = true
+is_set_up Switch chosen reported = is_some chosen
+is_set_up File chosen reported = reported
+is_set_up _ chosen reported = true
 
 -- is all there that a run of the node gets?
 abbrev pub is_full : Nodes → ℕ → Bool
