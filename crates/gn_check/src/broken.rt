@@ -108,12 +108,13 @@ fn link_clashes(scope: &Scope<'_, '_>, kind: SocketKind, link: &TreeLink) -> boo
 }
 
 fn any_clashes(scope: &Scope<'_, '_>, kind: SocketKind, links: &[TreeLink]) -> bool
-    ensures { result ≡ list_any (rules.link_clashes (scope_of scope.now) kind) (map link_of links.now) }
+    ensures { result ≡ list_any (λ link. rules.link_clashes (scope_of scope.now) kind (link_of link)) links.now }
 {
     links.iter().any(|link| link_clashes(scope, kind, link))
 }
 
 /// Whether the input doesn't fit a socket of that shape.
+#[tactic(auto, using(crate::proofs::Judging::any_link))]
 fn is_unfit(scope: &Scope<'_, '_>, shape: Shape, input: &TreeInput) -> bool
     ensures { result ≡ rules.is_unfit (scope_of scope.now) shape (input_of input.now) }
 {

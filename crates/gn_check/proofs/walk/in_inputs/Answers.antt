@@ -11,6 +11,6 @@ pub returns : goal.returns
 returns c =
     let r = c.args.scope.now.sought in
     let sc = scope_of c.args.scope.now in
-    let ds = declared_by c.inputs-declared.result in
+    let ds = declared_by c.inputs_of-declared.result in
     let xs = map named_of c.inputs.result.now in
-    is_same c.first_input.result (first_input (breaks r) sc ds xs) (in_inputs_of_node (breaks r) sc c.args.node.now) (inputs_way r sc c.args.node.now ds xs c.inputs-declared.ensures c.inputs.ensures) c.first_input.ensures
+    is_same c.first_input.result (first_input (breaks r) sc ds xs) (in_inputs_of_node (breaks r) sc c.args.node.now) (inputs_way r sc c.args.node.now ds xs c.inputs_of-declared.ensures c.inputs.ensures) c.first_input.ensures
