@@ -6,6 +6,7 @@ pub mod Right
 pub mod Demand
 pub mod Agree
 pub mod Ranked
+pub mod Plain
 pub mod Walks
 pub mod Tasks
 pub mod Raised

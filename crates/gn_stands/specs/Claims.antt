@@ -1,9 +1,9 @@
 -- What holds of every graph that stands for a tree.
-use Rattle.std.specs.Prelude.{◌≡◌, ◌<◌, ◌≤◌, ◌↔◌, ℕ, List, [], ◌∷◌, ◌++◌, map, Some}
+use Rattle.std.specs.Prelude.{◌≡◌, ◌<◌, ◌≤◌, ◌↔◌, ℕ, List, [], ◌∷◌, ◌++◌, map, Some, false, IsTrue}
 use Rattle.gn_tree.specs.NodeKinds.{Kind}
 use Rattle.gn_tree.specs.Trees.{Tree}
 use Rattle.gn_rules.specs.Rules.{KeepsRules}
-use Rattle.gn_node_set.specs.Paths.{Path}
+use Rattle.gn_node_set.specs.Paths.{Path, has_turn, ends_plain}
 use Rattle.gn_node_set.specs.Meanings.{Has, Link, Node, Warning, Done, Rows, Meanings}
 use Rattle.gn_exec_laws.specs.Graphs.{Task, link_value, run_of as node_run, Answers, told_by, answer_of, Solves, Demanded as NodeDemanded, ListsDemand as ListsNodes}
 use Rattle.gn_exec_laws.specs.Fits.{paths_of}
@@ -102,3 +102,7 @@ OpenAsFound {V} m given t = (way : Way) (outer : Body) (n : ℕ) (run : Run) (b 
 -- then the zones of each tree that keeps the rules open for their turns
 abbrev pub FoundZonesOpen : {V S T : Type 0} → Meanings Kind V S T → Type 0
 FoundZonesOpen {V} m = (given : Given V) (t : Tree) → HasForm t → KeepsRules t → OpenAsFound m given t → ZonesOpen given t m
+
+-- the paths of the nodes of a graph that stands for a tree lead into no turn and end in a node
+abbrev pub StandingPathsArePlain : (V : Type 0) → Type 0
+StandingPathsArePlain V = (given : Given V) (t : Tree) (task : Task Kind V) → StandsFor given t task → (node : Node Kind V) → Has task.nodes node → (has_turn node.path ≡ false) × IsTrue (ends_plain node.path)

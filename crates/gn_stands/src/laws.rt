@@ -1,7 +1,7 @@
 ghost use Rattle.gn_tree.specs.NodeKinds.{Kind};
 ghost use Rattle.gn_node_set.specs.Meanings.{Meanings};
 ghost use Rattle.gn_stands.specs.Order.{RanksOrderBack};
-ghost use Rattle.gn_stands.specs.Claims.{StandingAgrees, FoundGraphsStand, FoundZonesOpen};
+ghost use Rattle.gn_stands.specs.Claims.{StandingAgrees, FoundGraphsStand, StandingPathsArePlain, FoundZonesOpen};
 
 /// What the kinds of nodes of trees do, for contracts alone: the types of values, of their sorts and of
 /// the sources of sampled fields, and the meanings over these.
@@ -38,4 +38,10 @@ pub fn found_zones_open<N: TreeMeanings>()
 /// back to itself.
 pub fn ranks_order_back()
     ensures { RanksOrderBack }
+{}
+
+/// The paths of the nodes of a graph that stands for a tree lead into no turn of a zone, and each ends
+/// in a node.
+pub fn standing_paths_are_plain<N: TreeMeanings>()
+    ensures { StandingPathsArePlain N.Values }
 {}

@@ -40,5 +40,6 @@ fn the_laws_can_be_called_at_meanings(_rt: HostRuntime) -> Result<(), Fail> {
     found_graphs_stand::<NoValues>();
     found_zones_open::<NoValues>();
     ranks_order_back();
+    standing_paths_are_plain::<NoValues>();
     Ok(())
 }
