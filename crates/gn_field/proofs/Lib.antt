@@ -7,3 +7,4 @@ mod Merging
 mod Joining
 mod Roots
 mod Facts
+mod Owned

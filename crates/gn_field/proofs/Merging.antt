@@ -167,7 +167,7 @@ moved_formed ts us places (of_sampled path arg) e below = ap (sampled path tt) (
 
 -- ---- one step more
 
-take_all : {A : Type 0} (n : ℕ) (xs : List A) → length xs ≤ n → take n xs ≡ xs
+pub take_all : {A : Type 0} (n : ℕ) (xs : List A) → length xs ≤ n → take n xs ≡ xs
 take_all zero [] h = refl
 take_all zero (x ∷ xs) h = absurd (omega arith)
 take_all (suc n) [] h = refl

@@ -1,5 +1,5 @@
 -- How a list of steps takes in further steps, each once.
-use Rattle.std.specs.Prelude.{◌≡◌, ◌≢◌, ◌⊎◌, ℕ, ◌+◌, ◌*◌, ◌<◌, ◌≤◌, List, [], ◌∷◌, ◌++◌, length, map, Option, Some, None, slice_get, slice_index, flat_map}
+use Rattle.std.specs.Prelude.{◌≡◌, ◌≢◌, ◌⊎◌, ℕ, ◌+◌, ◌*◌, ◌<◌, ◌≤◌, List, [], ◌∷◌, ◌++◌, length, map, Option, Some, None, slice_get, slice_index, flat_map, unwrap_or}
 use Rattle.gn_node_set.specs.Meanings.{Has, AllDiffer}
 use Rattle.gn_node_set.specs.Paths.{Path}
 use Rattle.gn_value.specs.declared.value.ValueKind.{ValueKind}
@@ -92,6 +92,31 @@ module _ {S : Type 0} (sources : Sources S) (taken : S → ValueKind) where
   AreLeft base [] [] = Unit {0}
   AreLeft base (e ∷ es) (o ∷ os) = IsLeft base e o × AreLeft base es os
   AreLeft base _ _ = ⊥
+
+  -- the steps of what is left of a field are merged into others
+  abbrev pub JoinsLeft : List (FieldStep S) → Option (Expr S) → ℕ → ℕ → List (FieldStep S) → Type 0
+  JoinsLeft before None root place after = (after ≡ before) × (place ≡ root)
+  JoinsLeft before (Some f) root place after = Joins sources taken before f place after
+
+  -- the first fields are gathered into the steps of a base
+  pub record IsGathering (base : Expr S) (root : ℕ) (es : List (Expr S)) (xs : List (FieldStep S)) (roots : List ℕ) : Type 0 where
+    pub merged : IsMerged xs
+    pub root_is : named (trees (keys xs)) root ≡ bare base
+    pub root_within : root < length xs
+    pub formed : map (named (trees (keys xs))) roots ≡ map bare es
+    pub within : AreBelow (length xs) roots
+    pub members : (t : Tree) → Has (trees (keys xs)) t → Has (subtrees (bare base)) t ⊎ Has (flat_map subtrees (map bare es)) t
+    pub base_in : (t : Tree) → Has (subtrees (bare base)) t → Has (trees (keys xs)) t
+    pub all_in : (t : Tree) → Has (flat_map subtrees (map bare es)) t → Has (trees (keys xs)) t
+    pub sourced : (table : Path → Option S) → HasSources table base → HaveSources table (exprs_of es) → AreSourced table xs
+    pub few : length xs ≤ (length es + 1) * 4096
+    pub kinds : HaveKinds sources taken (exprs_of es)
+    pub base_kinds : HasKinds sources taken base
+
+-- the fields that are left, and the base in place of the others
+abbrev pub filled : {S : Type 0} → Expr S → List (Option (Expr S)) → List (Expr S)
+filled base [] = []
+filled base (o ∷ os) = unwrap_or o base ∷ filled base os
 
 -- a step makes a field of the fields that are gathered
 pub record Makes {S : Type 0} (sources : Sources S) (taken : S → ValueKind) (es : List (Expr S)) (xs : List (FieldStep S)) (x : FieldStep S) (e : Expr S) : Type 0 where

@@ -1,12 +1,12 @@
 // Fields, each kept as the list of its different subtrees.
-ghost use Rattle.std.specs.Prelude.{◌≡◌, ◌<◌, ◌≤◌, ◌+◌, ◌-◌, slice_index, ◌^◌, length, map, [], ◌∷◌, ◌++◌, IfOk, IfErr, OnOk};
+ghost use Rattle.std.specs.Prelude.{ℕ, true, ◌≡◌, ◌<◌, ◌≤◌, ◌+◌, ◌-◌, slice_index, ◌^◌, length, map, [], ◌∷◌, ◌++◌, IfOk, IfErr, OnOk};
 ghost use Rattle.gn_value.specs.Operations.{Takes};
 ghost use Rattle.gn_plain.specs.Fields.{constant, input as input_of, apply, elsewhere, sampled, varies, kind_of_field};
 ghost use Rattle.gn_plain.specs.Subtrees.{count_different};
-ghost use Rattle.gn_field.specs.Steps.{plain_input, step_of, exprs_of, built, last_of};
+ghost use Rattle.gn_field.specs.Steps.{plain_input, step_of, exprs_of, keys, built, last_of};
 ghost use Rattle.gn_field.specs.Trees.{AgreesOnSources};
 ghost use Rattle.gn_field.specs.Kinds.{step_takes, HasKinds};
-ghost use Rattle.gn_field.specs.Merged.{IsMerged, IsField, Joins, Gathers, Finishes};
+ghost use Rattle.gn_field.specs.Merged.{IsMerged, IsField, Joins, JoinsLeft, Gathers, IsLeft, AreLeft, filled, IsGathering, Finishes};
 ghost use Rattle.gn_field.specs.Faults.{IsFieldFault};
 
 use crate::input::{Input, Step};
@@ -76,6 +76,13 @@ struct Gathered<S> {
     roots: Vec<u32>,
 }
 
+/// The steps of a field, and its place.
+#[derive(Drop)]
+struct Taken<S> {
+    steps: Vec<FieldStep<S>>,
+    root: u32,
+}
+
 /// The last of some places.
 fn last_place(places: &[u32]) -> u32
     requires { 0 < length places.now }
@@ -110,6 +117,132 @@ fn gather<S: Source>(alloc: Global, fields: &[Field<S>]) -> Result<Gathered<S>, 
         roots.push(root)?;
     }
     Ok(Gathered { steps, roots })
+}
+
+/// The number of a field with the most steps.
+fn largest<S: Source>(fields: &[Field<S>]) -> usize
+    requires { 0 < length fields.now }
+    ensures { result < length fields.now }
+{
+    let mut largest = 0;
+    for (at, field) in fields.iter().enumerate() {
+        if fields[largest].distinct() < field.distinct() {
+            largest = at;
+        }
+    }
+    largest
+}
+
+/// Whether the steps are the same.
+fn are_same<S>(steps: &[FieldStep<S>], others: &[FieldStep<S>]) -> bool
+    ensures { result ≡ true → keys steps.now ≡ keys others.now }
+{
+    if steps.len() != others.len() {
+        return false;
+    }
+    for (at, step) in steps.iter().enumerate() {
+        if !step.is_same(&others[at]) {
+            return false;
+        }
+    }
+    true
+}
+
+/// The fields, but for those whose steps are those of a base.
+fn without_same<S: Source>(
+    alloc: Global,
+    base: &Field<S>,
+    fields: Vec<Field<S>>,
+) -> Result<Vec<Option<Field<S>>>, Memory>
+    ensures { IfOk result (λ rest. AreLeft S.sources S.taken base.now fields.items rest.items) }
+{
+    let mut rest = Vec::with_capacity(alloc, fields.len())?;
+    for field in fields {
+        rest.push(field.unless_same(base))?;
+    }
+    Ok(rest)
+}
+
+/// As many new steps as a field has.
+fn copy_steps<S: Source>(alloc: Global, field: &Field<S>) -> Result<Taken<S>, Memory>
+    ensures { IfOk result (λ t. Joins S.sources S.taken [] field.now t.root t.steps.items) }
+{
+    let mut steps = Vec::new(alloc);
+    let root = join(alloc, &mut steps, field)?;
+    Ok(Taken { steps, root })
+}
+
+/// Steps, and the place of the last.
+fn with_last<S>(steps: Vec<FieldStep<S>>) -> Taken<S>
+    requires some { 0 < length steps.items }
+    requires few { length steps.items ≤ 4096 }
+    ensures { (result.steps ≡ steps) × (result.root ≡ length steps.items - 1) }
+{
+    let root = (steps.len() - 1) as u32;
+    Taken { steps, root }
+}
+
+/// The steps of a field: its own where no other field has them, and else as many new ones.
+fn take_steps<S: Source>(alloc: Global, field: Field<S>) -> Result<Taken<S>, Memory>
+    ensures { IfOk result (λ t. Joins S.sources S.taken [] field t.root t.steps.items) }
+{
+    let Field { steps } = field;
+    match Arc::try_unwrap(steps) {
+        Ok(steps) => Ok(with_last(steps)),
+        Err(steps) => copy_steps(alloc, &Field { steps }),
+    }
+}
+
+/// Merges the steps of a field into others, unless nothing is left of it because it is their base.
+fn join_left<S: Source>(
+    alloc: Global,
+    steps: &mut Vec<FieldStep<S>>,
+    field: &Option<Field<S>>,
+    root: u32,
+) -> Result<u32, Memory>
+    requires merged { IsMerged steps.old.items }
+    requires few { length steps.old.items ≤ 2 ^ 29 }
+    ensures { IfOk result (λ place. JoinsLeft S.sources S.taken steps.old.items field.now root place steps.new.items) }
+{
+    match field {
+        Some(field) => join(alloc, steps, field),
+        None => Ok(root),
+    }
+}
+
+/// Gathers the steps of the fields that are left behind those of their base.
+fn gather_behind<S: Source>(
+    alloc: Global,
+    base: Field<S>,
+    rest: &[Option<Field<S>>],
+) -> Result<Gathered<S>, Memory>
+    requires few { length rest.now ≤ 65536 }
+    ensures { IfOk result (λ g. (root : ℕ) × IsGathering S.sources S.taken base root (filled base rest.now) g.steps.items g.roots.items) }
+{
+    let taken = take_steps(alloc, base)?;
+    let root = taken.root;
+    let mut steps = taken.steps;
+    let mut roots = Vec::with_capacity(alloc, rest.len())?;
+    for field in rest {
+        let place = join_left(alloc, &mut steps, field, root)?;
+        roots.push(place)?;
+    }
+    Ok(Gathered { steps, roots })
+}
+
+/// Gathers the steps of fields behind those of a field with the most, which are not copied unless
+/// another field has them.
+fn gather_owned<S: Source>(alloc: Global, fields: Vec<Field<S>>) -> Result<Gathered<S>, Memory>
+    requires { length fields.items ≤ 65536 }
+    ensures { IfOk result (λ g. Gathers S.sources S.taken fields.items g.steps.items g.roots.items) }
+{
+    if fields.is_empty() {
+        return gather(alloc, &fields);
+    }
+    let at = largest(&fields);
+    let base = fields[at].second()?;
+    let rest = without_same(alloc, &base, fields)?;
+    gather_behind(alloc, base, &rest)
 }
 
 /// The field of these steps with one behind them.
@@ -173,7 +306,7 @@ impl<S: Source> Field<S> {
         ensures few { OnOk result (count_different (apply op (exprs_of args.items) ∷ []) ≤ 4096) }
         ensures fault { IfErr result (IsFieldFault (count_different (apply op (exprs_of args.items) ∷ []))) }
     {
-        let Gathered { steps, roots } = gather(alloc, &args)?;
+        let Gathered { steps, roots } = gather_owned(alloc, args)?;
         finish(alloc, steps, FieldStep::Apply { op, args: roots })
     }
 
@@ -187,7 +320,7 @@ impl<S: Source> Field<S> {
         ensures few { OnOk result (count_different (elsewhere (step_of step) (exprs_of args.items) ∷ []) ≤ 4096) }
         ensures fault { IfErr result (IsFieldFault (count_different (elsewhere (step_of step) (exprs_of args.items) ∷ []))) }
     {
-        let Gathered { steps, roots } = gather(alloc, &args)?;
+        let Gathered { steps, roots } = gather_owned(alloc, args)?;
         finish(alloc, steps, FieldStep::Elsewhere { step, args: roots })
     }
 
@@ -207,8 +340,7 @@ impl<S: Source> Field<S> {
         ensures few { OnOk result (count_different (sampled tag.steps.items source arg ∷ []) ≤ 4096) }
         ensures fault { IfErr result (IsFieldFault (count_different (sampled tag.steps.items source arg ∷ []))) }
     {
-        let mut steps = Vec::new(alloc);
-        let root = join(alloc, &mut steps, &arg)?;
+        let Taken { steps, root } = take_steps(alloc, arg)?;
         finish(
             alloc,
             steps,
@@ -218,6 +350,16 @@ impl<S: Source> Field<S> {
                 arg: root,
             },
         )
+    }
+
+    /// The field, unless its steps are those of a base.
+    fn unless_same(self, base: &Field<S>) -> Option<Field<S>>
+        ensures { IsLeft S.sources S.taken base.now self result }
+    {
+        if are_same(self.steps.as_slice(), base.steps.as_slice()) {
+            return None;
+        }
+        Some(self)
     }
 
     /// The same field once more.

@@ -18,7 +18,7 @@ finish-requires-clause-makes g c κs within =
     let xs = c.in_ok-steps.field-0.steps.items in
     let x : FieldStep g.row.S.Denot = Elsewhere c.args.step c.in_ok-steps.field-0.roots in
     let e : Expr g.row.S.Denot = elsewhere (step_of c.args.step) (exprs_of c.args.args.items) in
-    let all : Gathers src tk es xs c.in_ok-steps.field-0.roots.items = subst (λ fs. Gathers src tk fs xs c.in_ok-steps.field-0.roots.items) c.deref.ensures.value c.in_ok-steps.ensures in
+    let all : Gathers src tk es xs c.in_ok-steps.field-0.roots.items = c.in_ok-steps.ensures in
     let kinds : HasKinds src tk e = (kinds_are src es ∙ c.requires.takes, all.kinds) in
     let m : Makes src tk es xs x e = reads_elsewhere src tk es xs c.in_ok-steps.field-0.roots.items all (step_of c.args.step) x refl (λ table. tt) kinds in
     record { args = es; field = e; makes = m; one_source = c.requires.one_source }
@@ -31,7 +31,7 @@ returns-clause-field g c =
     let xs = c.in_ok-steps.field-0.steps.items in
     let x : FieldStep g.row.S.Denot = Elsewhere c.args.step c.in_ok-steps.field-0.roots in
     let e : Expr g.row.S.Denot = elsewhere (step_of c.args.step) (exprs_of c.args.args.items) in
-    let all : Gathers src tk es xs c.in_ok-steps.field-0.roots.items = subst (λ fs. Gathers src tk fs xs c.in_ok-steps.field-0.roots.items) c.deref.ensures.value c.in_ok-steps.ensures in
+    let all : Gathers src tk es xs c.in_ok-steps.field-0.roots.items = c.in_ok-steps.ensures in
     let kinds : HasKinds src tk e = (kinds_are src es ∙ c.requires.takes, all.kinds) in
     let m : Makes src tk es xs x e = reads_elsewhere src tk es xs c.in_ok-steps.field-0.roots.items all (step_of c.args.step) x refl (λ table. tt) kinds in
     subst (λ f. IfOk c.finish.result (λ r. r ≡ f)) (is_last src tk es xs x e m c.requires.one_source.0 c.requires.one_source.1) c.finish.ensures.field
@@ -44,7 +44,7 @@ returns-clause-few g c =
     let xs = c.in_ok-steps.field-0.steps.items in
     let x : FieldStep g.row.S.Denot = Elsewhere c.args.step c.in_ok-steps.field-0.roots in
     let e : Expr g.row.S.Denot = elsewhere (step_of c.args.step) (exprs_of c.args.args.items) in
-    let all : Gathers src tk es xs c.in_ok-steps.field-0.roots.items = subst (λ fs. Gathers src tk fs xs c.in_ok-steps.field-0.roots.items) c.deref.ensures.value c.in_ok-steps.ensures in
+    let all : Gathers src tk es xs c.in_ok-steps.field-0.roots.items = c.in_ok-steps.ensures in
     let kinds : HasKinds src tk e = (kinds_are src es ∙ c.requires.takes, all.kinds) in
     let m : Makes src tk es xs x e = reads_elsewhere src tk es xs c.in_ok-steps.field-0.roots.items all (step_of c.args.step) x refl (λ table. tt) kinds in
     subst (λ n. OnOk c.finish.result (n ≤ 4096)) (sym (count_is src tk es xs x e m)) c.finish.ensures.few
@@ -57,7 +57,7 @@ returns-clause-fault g c =
     let xs = c.in_ok-steps.field-0.steps.items in
     let x : FieldStep g.row.S.Denot = Elsewhere c.args.step c.in_ok-steps.field-0.roots in
     let e : Expr g.row.S.Denot = elsewhere (step_of c.args.step) (exprs_of c.args.args.items) in
-    let all : Gathers src tk es xs c.in_ok-steps.field-0.roots.items = subst (λ fs. Gathers src tk fs xs c.in_ok-steps.field-0.roots.items) c.deref.ensures.value c.in_ok-steps.ensures in
+    let all : Gathers src tk es xs c.in_ok-steps.field-0.roots.items = c.in_ok-steps.ensures in
     let kinds : HasKinds src tk e = (kinds_are src es ∙ c.requires.takes, all.kinds) in
     let m : Makes src tk es xs x e = reads_elsewhere src tk es xs c.in_ok-steps.field-0.roots.items all (step_of c.args.step) x refl (λ table. tt) kinds in
     subst (λ n. IfErr c.finish.result (IsFieldFault n)) (sym (count_is src tk es xs x e m)) c.finish.ensures.fault

@@ -3,7 +3,7 @@ use Rattle.gn_plain.specs.Fields.{Expr, sampled}
 use Rattle.gn_field.specs.declared.step.FieldStep.{FieldStep}
 use Rattle.gn_field.specs.declared.step.FieldStep.TheVariants.{Sampled}
 use Rattle.gn_field.specs.Kinds.{HasKinds}
-use Rattle.gn_field.specs.Merged.{Makes, Gathers, Joins}
+use Rattle.gn_field.specs.Merged.{Makes, Gathers}
 use Rattle.gn_field.specs.Faults.{IsFieldFault}
 use Rattle.gn_field.proofs.Joining.{gathers_none, gathers_more}
 use Rattle.gn_field.proofs.Roots.{samples, is_last, count_is}
@@ -14,12 +14,12 @@ finish-requires-clause-makes g c κs within =
     let src = g.S.Source.sources in
     let tk = g.S.Source.taken in
     let es = c.args.arg ∷ [] in
-    let xs = c.join.new.steps.items in
-    let x : FieldStep g.row.S.Denot = Sampled c.args.tag c.args.source c.in_ok-root.root in
+    let xs = c.in_ok-steps.field-0.steps.items in
+    let x : FieldStep g.row.S.Denot = Sampled c.args.tag c.args.source c.in_ok-steps.field-0.root in
     let e : Expr g.row.S.Denot = sampled c.args.tag.steps.items c.args.source c.args.arg in
-    let all : Gathers src tk es xs (c.in_ok-root.root ∷ []) = gathers_more src tk [] [] [] c.args.arg c.in_ok-root.root xs (gathers_none src tk) (subst (λ b. Joins src tk b c.args.arg c.in_ok-root.root xs) c.new-steps.ensures.items c.in_ok-root.ensures) in
+    let all : Gathers src tk es xs (c.in_ok-steps.field-0.root ∷ []) = gathers_more src tk [] [] [] c.args.arg c.in_ok-steps.field-0.root xs (gathers_none src tk) c.in_ok-steps.ensures in
     let kinds : HasKinds src tk e = (c.requires.takes, all.kinds.0) in
-    let m : Makes src tk es xs x e = samples src tk c.args.arg xs c.in_ok-root.root all c.args.tag.steps.items c.args.source x refl (λ table h. h) kinds in
+    let m : Makes src tk es xs x e = samples src tk c.args.arg xs c.in_ok-steps.field-0.root all c.args.tag.steps.items c.args.source x refl (λ table h. h) kinds in
     record { args = es; field = e; makes = m; one_source = c.requires.one_source }
 
 pub returns-clause-field : goal.returns-clause-field
@@ -27,12 +27,12 @@ returns-clause-field g c =
     let src = g.S.Source.sources in
     let tk = g.S.Source.taken in
     let es = c.args.arg ∷ [] in
-    let xs = c.join.new.steps.items in
-    let x : FieldStep g.row.S.Denot = Sampled c.args.tag c.args.source c.in_ok-root.root in
+    let xs = c.in_ok-steps.field-0.steps.items in
+    let x : FieldStep g.row.S.Denot = Sampled c.args.tag c.args.source c.in_ok-steps.field-0.root in
     let e : Expr g.row.S.Denot = sampled c.args.tag.steps.items c.args.source c.args.arg in
-    let all : Gathers src tk es xs (c.in_ok-root.root ∷ []) = gathers_more src tk [] [] [] c.args.arg c.in_ok-root.root xs (gathers_none src tk) (subst (λ b. Joins src tk b c.args.arg c.in_ok-root.root xs) c.new-steps.ensures.items c.in_ok-root.ensures) in
+    let all : Gathers src tk es xs (c.in_ok-steps.field-0.root ∷ []) = gathers_more src tk [] [] [] c.args.arg c.in_ok-steps.field-0.root xs (gathers_none src tk) c.in_ok-steps.ensures in
     let kinds : HasKinds src tk e = (c.requires.takes, all.kinds.0) in
-    let m : Makes src tk es xs x e = samples src tk c.args.arg xs c.in_ok-root.root all c.args.tag.steps.items c.args.source x refl (λ table h. h) kinds in
+    let m : Makes src tk es xs x e = samples src tk c.args.arg xs c.in_ok-steps.field-0.root all c.args.tag.steps.items c.args.source x refl (λ table h. h) kinds in
     subst (λ f. IfOk c.finish.result (λ r. r ≡ f)) (is_last src tk es xs x e m c.requires.one_source.0 c.requires.one_source.1) c.finish.ensures.field
 
 pub returns-clause-few : goal.returns-clause-few
@@ -40,12 +40,12 @@ returns-clause-few g c =
     let src = g.S.Source.sources in
     let tk = g.S.Source.taken in
     let es = c.args.arg ∷ [] in
-    let xs = c.join.new.steps.items in
-    let x : FieldStep g.row.S.Denot = Sampled c.args.tag c.args.source c.in_ok-root.root in
+    let xs = c.in_ok-steps.field-0.steps.items in
+    let x : FieldStep g.row.S.Denot = Sampled c.args.tag c.args.source c.in_ok-steps.field-0.root in
     let e : Expr g.row.S.Denot = sampled c.args.tag.steps.items c.args.source c.args.arg in
-    let all : Gathers src tk es xs (c.in_ok-root.root ∷ []) = gathers_more src tk [] [] [] c.args.arg c.in_ok-root.root xs (gathers_none src tk) (subst (λ b. Joins src tk b c.args.arg c.in_ok-root.root xs) c.new-steps.ensures.items c.in_ok-root.ensures) in
+    let all : Gathers src tk es xs (c.in_ok-steps.field-0.root ∷ []) = gathers_more src tk [] [] [] c.args.arg c.in_ok-steps.field-0.root xs (gathers_none src tk) c.in_ok-steps.ensures in
     let kinds : HasKinds src tk e = (c.requires.takes, all.kinds.0) in
-    let m : Makes src tk es xs x e = samples src tk c.args.arg xs c.in_ok-root.root all c.args.tag.steps.items c.args.source x refl (λ table h. h) kinds in
+    let m : Makes src tk es xs x e = samples src tk c.args.arg xs c.in_ok-steps.field-0.root all c.args.tag.steps.items c.args.source x refl (λ table h. h) kinds in
     subst (λ n. OnOk c.finish.result (n ≤ 4096)) (sym (count_is src tk es xs x e m)) c.finish.ensures.few
 
 pub returns-clause-fault : goal.returns-clause-fault
@@ -53,10 +53,10 @@ returns-clause-fault g c =
     let src = g.S.Source.sources in
     let tk = g.S.Source.taken in
     let es = c.args.arg ∷ [] in
-    let xs = c.join.new.steps.items in
-    let x : FieldStep g.row.S.Denot = Sampled c.args.tag c.args.source c.in_ok-root.root in
+    let xs = c.in_ok-steps.field-0.steps.items in
+    let x : FieldStep g.row.S.Denot = Sampled c.args.tag c.args.source c.in_ok-steps.field-0.root in
     let e : Expr g.row.S.Denot = sampled c.args.tag.steps.items c.args.source c.args.arg in
-    let all : Gathers src tk es xs (c.in_ok-root.root ∷ []) = gathers_more src tk [] [] [] c.args.arg c.in_ok-root.root xs (gathers_none src tk) (subst (λ b. Joins src tk b c.args.arg c.in_ok-root.root xs) c.new-steps.ensures.items c.in_ok-root.ensures) in
+    let all : Gathers src tk es xs (c.in_ok-steps.field-0.root ∷ []) = gathers_more src tk [] [] [] c.args.arg c.in_ok-steps.field-0.root xs (gathers_none src tk) c.in_ok-steps.ensures in
     let kinds : HasKinds src tk e = (c.requires.takes, all.kinds.0) in
-    let m : Makes src tk es xs x e = samples src tk c.args.arg xs c.in_ok-root.root all c.args.tag.steps.items c.args.source x refl (λ table h. h) kinds in
+    let m : Makes src tk es xs x e = samples src tk c.args.arg xs c.in_ok-steps.field-0.root all c.args.tag.steps.items c.args.source x refl (λ table h. h) kinds in
     subst (λ n. IfErr c.finish.result (IsFieldFault n)) (sym (count_is src tk es xs x e m)) c.finish.ensures.fault
