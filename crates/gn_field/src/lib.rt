@@ -19,6 +19,3 @@ mod step;
 pub use field::{Field, FieldFault};
 pub use input::{Input, Part, Step};
 pub use step::{FieldStep, Source};
-
-#[cfg(test)]
-mod tests;

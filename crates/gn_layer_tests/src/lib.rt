@@ -16,6 +16,8 @@ mod decimal;
 #[cfg(test)]
 mod elements;
 #[cfg(test)]
+mod field;
+#[cfg(test)]
 mod form;
 #[cfg(test)]
 mod geom;

@@ -3,7 +3,7 @@ ghost use Rattle.gn_value.specs.declared.value.ValueKind.TheVariants.{Int};
 ghost use Rattle.gn_plain.specs.Fields.{kind_of_field};
 ghost use Rattle.gn_field.specs.Trees.{HasSources};
 
-use super::*;
+use gn_field::{Field, FieldFault, Input, Source};
 use gn_lazy::Path;
 use gn_memory::Memory;
 use gn_value::op::{IntegerMathOp, Op};
