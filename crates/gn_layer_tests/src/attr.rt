@@ -1,4 +1,4 @@
-use gn_attr::{Column, Columns, Name};
+use gn_attr::{Column, Columns, Name, array};
 use gn_lazy::{Path, PathStep};
 use gn_memory::Memory;
 use gn_shared::Meter;

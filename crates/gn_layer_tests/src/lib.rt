@@ -38,4 +38,6 @@ mod origin;
 #[cfg(test)]
 mod read;
 #[cfg(test)]
+mod uses;
+#[cfg(test)]
 mod world;
