@@ -4,7 +4,7 @@ use Rattle.gn_value.specs.declared.value.ValueKind.TheVariants.{Int}
 use Rattle.gn_plain.specs.Fields.{kind_of_field}
 use Rattle.gn_field.specs.Steps.{exprs_of}
 use Rattle.gn_field.specs.Trees.{HaveSources}
-use Rattle.gn_layer_tests.proofs.field.sum.Goals as goal
+use Rattle.gn_field_tests.proofs.field.sum.Goals as goal
 
 pub apply-requires-clause-takes : goal.apply-requires-clause-takes
 unfolding Takes

@@ -1,0 +1,14 @@
+//! Tests of the readers of trees and of their parts, each by its public calls.
+//!
+//! They are in a crate of their own, since a crate with tests is proved once more for them. The crate promises
+//! nothing of its own.
+#![tactic(auto)]
+
+#[cfg(test)]
+mod atom;
+#[cfg(test)]
+mod form;
+#[cfg(test)]
+mod json;
+#[cfg(test)]
+mod kinds;
