@@ -52,7 +52,16 @@ where
         return ExitCode::from(refuse_stray(&words.texts, stray, err).code());
     }
     let mut meter = Meter::new(Seal);
-    let status = run(rt, alloc, &words.texts, shelf, out, err, &OpenGate, &mut meter);
+    let status = run(
+        rt,
+        alloc,
+        &words.texts,
+        shelf,
+        out,
+        err,
+        &OpenGate,
+        &mut meter,
+    );
     let _ = meter.spend(Seal);
     ExitCode::from(status.code())
 }

@@ -109,21 +109,33 @@ module _ (groups : List Group) where
   ReadsOp name read = (op : Text) (kind : NodeKind) → read op ≡ Some kind → IsWritten groups name (one (trees.op op)) kind
 
   ops_read : Each ReadsOp readers_of_op
-  ops_read = (op_reader k.math math_ops math_name (codes "math") math_ops_so (λ o. (refl, refl, refl)),
-      (op_reader k.integer_math integer_math_ops integer_math_name (codes "integer_math") integer_math_ops_so (λ o. (refl, refl, refl)),
-      (op_reader k.vector_math vector_math_ops vector_math_name (codes "vector_math") vector_math_ops_so (λ o. (refl, refl, refl)),
-      (op_reader k.boolean_math boolean_math_ops boolean_math_name (codes "boolean_math") boolean_math_ops_so (λ o. (refl, refl, refl)),
-      (op_reader k.float_to_integer round_modes round_name (codes "float_to_integer") round_modes_so (λ o. (refl, refl, refl)), tt)))))
+  ops_read = (
+    op_reader k.math math_ops math_name (codes "math") math_ops_so (λ o. (refl, refl, refl)),
+    (
+      op_reader k.integer_math integer_math_ops integer_math_name (codes "integer_math") integer_math_ops_so (λ o. (refl, refl, refl)),
+      (
+        op_reader k.vector_math vector_math_ops vector_math_name (codes "vector_math") vector_math_ops_so (λ o. (refl, refl, refl)),
+        (
+          op_reader k.boolean_math boolean_math_ops boolean_math_name (codes "boolean_math") boolean_math_ops_so (λ o. (refl, refl, refl)),
+          (op_reader k.float_to_integer round_modes round_name (codes "float_to_integer") round_modes_so (λ o. (refl, refl, refl)), tt),
+        ),
+      ),
+    ),
+  )
 
   abbrev ReadsType : Text → (SocketKind → Option NodeKind) → Type 0
   ReadsType name read = (of : SocketKind) (kind : NodeKind) → read of ≡ Some kind → IsWritten groups name (one (trees.of_kind of)) kind
 
   types_read : Each ReadsType readers_of_type
-  types_read = (λ of kind e. (let c = came_of k.mix (mix_kind_in of) kind e in
-          subst (IsWritten groups (codes "mix") (one (trees.of_kind of))) c.2 (refl, ap (λ s. one (trees.of_kind s)) (mix_so of c.0 c.1), refl)),
-      (λ of kind e. (let c = came_of k.random_value (value_kind_in of) kind e in
+  types_read = (
+    λ of kind e. (let c = came_of k.mix (mix_kind_in of) kind e in
+        subst (IsWritten groups (codes "mix") (one (trees.of_kind of))) c.2 (refl, ap (λ s. one (trees.of_kind s)) (mix_so of c.0 c.1), refl)),
+    (
+      λ of kind e. (let c = came_of k.random_value (value_kind_in of) kind e in
           subst (IsWritten groups (codes "random_value") (one (trees.of_kind of))) c.2 (refl, ap (λ s. one (trees.of_kind s)) (value_so of c.0 c.1), refl)),
-      (λ of kind e. subst (IsWritten groups (codes "switch") (one (trees.of_kind of))) (some_same (k.switch of) kind e) (refl, refl, refl), tt)))
+      (λ of kind e. subst (IsWritten groups (codes "switch") (one (trees.of_kind of))) (some_same (k.switch of) kind e) (refl, refl, refl), tt),
+    ),
+  )
 
   bare_read : Each (λ name kind. IsWritten groups name no_settings kind) bare_kinds
   bare_read = ((refl, refl, refl), ((refl, refl, refl), ((refl, refl, refl), ((refl, refl, refl), ((refl, refl, refl), ((refl, refl, refl), ((refl, refl, refl), ((refl, refl, refl), ((refl, refl, refl), ((refl, refl, refl), ((refl, refl, refl), ((refl, refl, refl), ((refl, refl, refl), ((refl, refl, refl), ((refl, refl, refl), ((refl, refl, refl), ((refl, refl, refl), ((refl, refl, refl), ((refl, refl, refl), ((refl, refl, refl), ((refl, refl, refl), ((refl, refl, refl), ((refl, refl, refl), ((refl, refl, refl), ((refl, refl, refl), ((refl, refl, refl), ((refl, refl, refl), ((refl, refl, refl), ((refl, refl, refl), tt)))))))))))))))))))))))))))))

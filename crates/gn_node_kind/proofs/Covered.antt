@@ -189,7 +189,7 @@ op_named make ((word, a) ∷ ops) o e = op_or (bytes_eq word o) make a ops o (op
 by_op : {A : Type 0} (name : Text) (make : A → NodeKind) (ops : List (Text × A)) → ((o : Text) → k.kind_by_op name o ≡ option_map make (named_in ops o)) → Covers name (row.op_in (map (λ x. x.0) ops) ∷ [])
 by_op name make ops is = one_covered name (row.op_in (map (λ x. x.0) ops)) refl
     (λ x e. (let f = is_op (map (λ x. x.0) ops) x e in
-        subst (λ x. is_some (k.kind_by_one name x) ≡ true) (sym f.1) (subst (λ found. is_some found ≡ true) (sym (is f.0)) (op_named make ops f.0 f.2))))
+    subst (λ x. is_some (k.kind_by_one name x) ≡ true) (sym f.1) (subst (λ found. is_some found ≡ true) (sym (is f.0)) (op_named make ops f.0 f.2))))
 
 by_place : (name : Text) (ps : List Place) → ((p : Place) → is_some (k.kind_by_place name p) ≡ true) → Covers name (row.place_in ps ∷ [])
 by_place name ps is = one_covered name (row.place_in ps) refl (λ x e. (let f = is_place ps x e in subst (λ x. is_some (k.kind_by_one name x) ≡ true) (sym f.1) (is f.0)))
@@ -244,8 +244,8 @@ by_both : (name : Text) (ks : List SocketKind) (ps : List Place) → ((p : Place
     → Covers name (row.type_in ks ∷ row.place_in ps ∷ [])
 by_both name ks ps is = two_covered name (row.type_in ks) (row.place_in ps) refl refl
     (λ x y e e'. (let f = is_type ks x e in
-        let g = is_place ps y e' in
-        subst (λ x. is_some (k.kind_by_two name x y) ≡ true) (sym f.1) (subst (λ y. is_some (k.kind_by_two name (trees.of_kind f.0) y) ≡ true) (sym g.1) (is g.0 f.0 f.2))))
+    let g = is_place ps y e' in
+    subst (λ x. is_some (k.kind_by_two name x y) ≡ true) (sym f.1) (subst (λ y. is_some (k.kind_by_two name (trees.of_kind f.0) y) ≡ true) (sym g.1) (is g.0 f.0 f.2))))
 
 evaluate_at_index_is : (p : Place) (of : SocketKind) → is_some (kind_named the.value_kinds (kind_name of)) ≡ true → is_some (k.kind_by_type_and_place (codes "evaluate_at_index") of p) ≡ true
 evaluate_at_index_is p socket.Truth e = refl
@@ -306,32 +306,32 @@ stored_is t p socket.Geometry e = absurd (cc)
 compare_covered : Covers (codes "compare") (row.type_in (socket.Int ∷ socket.Fixed ∷ []) ∷ row.op_in (map (λ x. x.0) compare_ops) ∷ [])
 compare_covered = two_covered (codes "compare") (row.type_in (socket.Int ∷ socket.Fixed ∷ [])) (row.op_in (map (λ x. x.0) compare_ops)) refl refl
     (λ x y e e'. (let f = is_type (socket.Int ∷ socket.Fixed ∷ []) x e in
-        let g = is_op (map (λ x. x.0) compare_ops) y e' in
-        subst (λ x. is_some (k.kind_by_two (codes "compare") x y) ≡ true) (sym f.1) (subst (λ y. is_some (k.kind_by_two (codes "compare") (trees.of_kind f.0) y) ≡ true) (sym g.1) (compare_is g.0 g.2 f.0 f.2))))
+    let g = is_op (map (λ x. x.0) compare_ops) y e' in
+    subst (λ x. is_some (k.kind_by_two (codes "compare") x y) ≡ true) (sym f.1) (subst (λ y. is_some (k.kind_by_two (codes "compare") (trees.of_kind f.0) y) ≡ true) (sym g.1) (compare_is g.0 g.2 f.0 f.2))))
 
 named_covered : Covers (codes "named_attribute") (row.a_name ∷ row.type_in the.value_kinds ∷ [])
 named_covered = two_covered (codes "named_attribute") row.a_name (row.type_in the.value_kinds) refl refl
     (λ x y e e'. (let f = is_name x e in
-        let g = is_type the.value_kinds y e' in
-        subst (λ x. is_some (k.kind_by_two (codes "named_attribute") x y) ≡ true) (sym f.1) (subst (λ y. is_some (k.kind_by_two (codes "named_attribute") (trees.a_name f.0) y) ≡ true) (sym g.1) (named_is f.0 g.0 g.2))))
+    let g = is_type the.value_kinds y e' in
+    subst (λ x. is_some (k.kind_by_two (codes "named_attribute") x y) ≡ true) (sym f.1) (subst (λ y. is_some (k.kind_by_two (codes "named_attribute") (trees.a_name f.0) y) ≡ true) (sym g.1) (named_is f.0 g.0 g.2))))
 
 sample_covered : Covers (codes "sample_index") (row.type_in the.value_kinds ∷ row.place_in the.any_place ∷ row.a_clamp ∷ [])
 sample_covered = three_covered (codes "sample_index") (row.type_in the.value_kinds) (row.place_in the.any_place) row.a_clamp refl refl refl
     (λ x y z e e' e''. (let f = is_type the.value_kinds x e in
-        let g = is_place the.any_place y e' in
-        let h = is_clamp z e'' in
-        subst (λ x. is_some (k.kind_by_three (codes "sample_index") x y z) ≡ true) (sym f.1)
-        (subst (λ y. is_some (k.kind_by_three (codes "sample_index") (trees.of_kind f.0) y z) ≡ true) (sym g.1)
-        (subst (λ z. is_some (k.kind_by_three (codes "sample_index") (trees.of_kind f.0) (trees.place g.0) z) ≡ true) (sym h.1) (sample_is g.0 h.0 f.0 f.2)))))
+    let g = is_place the.any_place y e' in
+    let h = is_clamp z e'' in
+    subst (λ x. is_some (k.kind_by_three (codes "sample_index") x y z) ≡ true) (sym f.1)
+    (subst (λ y. is_some (k.kind_by_three (codes "sample_index") (trees.of_kind f.0) y z) ≡ true) (sym g.1)
+    (subst (λ z. is_some (k.kind_by_three (codes "sample_index") (trees.of_kind f.0) (trees.place g.0) z) ≡ true) (sym h.1) (sample_is g.0 h.0 f.0 f.2)))))
 
 stored_covered : Covers (codes "store_named_attribute") (row.a_name ∷ row.type_in the.value_kinds ∷ row.place_in the.any_place ∷ [])
 stored_covered = three_covered (codes "store_named_attribute") row.a_name (row.type_in the.value_kinds) (row.place_in the.any_place) refl refl refl
     (λ x y z e e' e''. (let f = is_name x e in
-        let g = is_type the.value_kinds y e' in
-        let h = is_place the.any_place z e'' in
-        subst (λ x. is_some (k.kind_by_three (codes "store_named_attribute") x y z) ≡ true) (sym f.1)
-        (subst (λ y. is_some (k.kind_by_three (codes "store_named_attribute") (trees.a_name f.0) y z) ≡ true) (sym g.1)
-        (subst (λ z. is_some (k.kind_by_three (codes "store_named_attribute") (trees.a_name f.0) (trees.of_kind g.0) z) ≡ true) (sym h.1) (stored_is f.0 h.0 g.0 g.2)))))
+    let g = is_type the.value_kinds y e' in
+    let h = is_place the.any_place z e'' in
+    subst (λ x. is_some (k.kind_by_three (codes "store_named_attribute") x y z) ≡ true) (sym f.1)
+    (subst (λ y. is_some (k.kind_by_three (codes "store_named_attribute") (trees.a_name f.0) y z) ≡ true) (sym g.1)
+    (subst (λ z. is_some (k.kind_by_three (codes "store_named_attribute") (trees.a_name f.0) (trees.of_kind g.0) z) ≡ true) (sym h.1) (stored_is f.0 h.0 g.0 g.2)))))
 
 clamp_covered : Covers (codes "map_range") (row.a_clamp ∷ [])
 clamp_covered = one_covered (codes "map_range") row.a_clamp refl (λ x e. (let f = is_clamp x e in subst (λ x. is_some (k.kind_by_one (codes "map_range") x) ≡ true) (sym f.1) refl))
@@ -354,79 +354,183 @@ AreCovered (r ∷ rs) = IsCovered r × AreCovered rs
 
 values_covered : AreCovered the.values
 unfolding values
-values_covered = (λ h. by_value (codes "float") value_kind.Fixed float_is,
-    (λ h. by_value (codes "integer") value_kind.Int integer_is,
-    (λ h. by_value (codes "boolean") value_kind.Truth boolean_is,
-    (λ h. by_value (codes "vector") value_kind.Vector vector_is,
-    (λ h. none_covered (codes "position") refl,
-    (λ h. none_covered (codes "index") refl,
-    (λ h. none_covered (codes "id") refl,
-    (λ h. none_covered (codes "normal") refl,
-    (λ h. named_covered,
-    (λ h. none_covered (codes "edge_vertices") refl,
-    (λ h. none_covered (codes "vertex_neighbors") refl, tt)))))))))))
+values_covered = (
+  λ h. by_value (codes "float") value_kind.Fixed float_is,
+  (
+    λ h. by_value (codes "integer") value_kind.Int integer_is,
+    (
+      λ h. by_value (codes "boolean") value_kind.Truth boolean_is,
+      (
+        λ h. by_value (codes "vector") value_kind.Vector vector_is,
+        (
+          λ h. none_covered (codes "position") refl,
+          (
+            λ h. none_covered (codes "index") refl,
+            (
+              λ h. none_covered (codes "id") refl,
+              (
+                λ h. none_covered (codes "normal") refl,
+                (
+                  λ h. named_covered,
+                  (
+                    λ h. none_covered (codes "edge_vertices") refl,
+                    (λ h. none_covered (codes "vertex_neighbors") refl, tt),
+                  ),
+                ),
+              ),
+            ),
+          ),
+        ),
+      ),
+    ),
+  ),
+)
 
 functions_covered : AreCovered the.functions
 unfolding functions
-functions_covered = (λ h. by_op (codes "math") k.math math_ops (λ o. refl),
-    (λ h. by_op (codes "integer_math") k.integer_math integer_math_ops (λ o. refl),
-    (λ h. by_op (codes "vector_math") k.vector_math vector_math_ops (λ o. refl),
-    (λ h. by_op (codes "boolean_math") k.boolean_math boolean_math_ops (λ o. refl),
-    (λ h. compare_covered,
-    (λ h. none_covered (codes "clamp") refl,
-    (λ h. clamp_covered,
-    (λ h. by_type (codes "mix") (socket.Fixed ∷ socket.Vector ∷ []) mix_is,
-    (λ h. by_op (codes "float_to_integer") k.float_to_integer round_modes (λ o. refl),
-    (λ h. none_covered (codes "combine_xyz") refl,
-    (λ h. none_covered (codes "separate_xyz") refl,
-    (λ h. by_type (codes "random_value") the.value_kinds random_is,
-    (λ h. by_type (codes "switch") the.any_kind (λ of e. refl), tt)))))))))))))
+functions_covered = (
+  λ h. by_op (codes "math") k.math math_ops (λ o. refl),
+  (
+    λ h. by_op (codes "integer_math") k.integer_math integer_math_ops (λ o. refl),
+    (
+      λ h. by_op (codes "vector_math") k.vector_math vector_math_ops (λ o. refl),
+      (
+        λ h. by_op (codes "boolean_math") k.boolean_math boolean_math_ops (λ o. refl),
+        (
+          λ h. compare_covered,
+          (
+            λ h. none_covered (codes "clamp") refl,
+            (
+              λ h. clamp_covered,
+              (
+                λ h. by_type (codes "mix") (socket.Fixed ∷ socket.Vector ∷ []) mix_is,
+                (
+                  λ h. by_op (codes "float_to_integer") k.float_to_integer round_modes (λ o. refl),
+                  (
+                    λ h. none_covered (codes "combine_xyz") refl,
+                    (
+                      λ h. none_covered (codes "separate_xyz") refl,
+                      (
+                        λ h. by_type (codes "random_value") the.value_kinds random_is,
+                        (λ h. by_type (codes "switch") the.any_kind (λ of e. refl), tt),
+                      ),
+                    ),
+                  ),
+                ),
+              ),
+            ),
+          ),
+        ),
+      ),
+    ),
+  ),
+)
 
 elsewhere_covered : AreCovered the.elsewhere
 unfolding elsewhere
-elsewhere_covered = (λ h. by_both (codes "accumulate_field") (socket.Int ∷ socket.Fixed ∷ socket.Vector ∷ []) the.any_place accumulate_is,
-    (λ h. by_both (codes "evaluate_at_index") the.value_kinds the.any_place evaluate_at_index_is,
-    (λ h. by_both (codes "evaluate_on_domain") the.value_kinds the.any_place evaluate_on_domain_is,
-    (λ h. sample_covered,
-    (λ h. by_place (codes "sample_nearest") the.any_place (λ p. refl), tt)))))
+elsewhere_covered = (
+  λ h. by_both (codes "accumulate_field") (socket.Int ∷ socket.Fixed ∷ socket.Vector ∷ []) the.any_place accumulate_is,
+  (
+    λ h. by_both (codes "evaluate_at_index") the.value_kinds the.any_place evaluate_at_index_is,
+    (
+      λ h. by_both (codes "evaluate_on_domain") the.value_kinds the.any_place evaluate_on_domain_is,
+      (
+        λ h. sample_covered,
+        (λ h. by_place (codes "sample_nearest") the.any_place (λ p. refl), tt),
+      ),
+    ),
+  ),
+)
 
 attributes_covered : AreCovered the.attributes
 unfolding attributes
-attributes_covered = (λ h. by_both (codes "capture_attribute") the.value_kinds the.any_place capture_attribute_is,
-    (λ h. stored_covered,
-    (λ h. removed_covered,
-    (λ h. by_place (codes "attribute_statistic") the.any_place (λ p. refl),
-    (λ h. none_covered (codes "domain_size") refl,
-    (λ h. none_covered (codes "set_position") refl,
-    (λ h. none_covered (codes "set_id") refl, tt)))))))
+attributes_covered = (
+  λ h. by_both (codes "capture_attribute") the.value_kinds the.any_place capture_attribute_is,
+  (
+    λ h. stored_covered,
+    (
+      λ h. removed_covered,
+      (
+        λ h. by_place (codes "attribute_statistic") the.any_place (λ p. refl),
+        (
+          λ h. none_covered (codes "domain_size") refl,
+          (
+            λ h. none_covered (codes "set_position") refl,
+            (λ h. none_covered (codes "set_id") refl, tt),
+          ),
+        ),
+      ),
+    ),
+  ),
+)
 
 geometry_kinds_covered : AreCovered the.geometry_kinds
 unfolding geometry_kinds
-geometry_kinds_covered = (λ h. none_covered (codes "join_geometry") refl,
-    (λ h. none_covered (codes "transform_geometry") refl,
-    (λ h. by_place (codes "delete_geometry") the.any_but_corner (λ p. refl),
-    (λ h. by_place (codes "separate_geometry") the.any_but_corner (λ p. refl),
-    (λ h. none_covered (codes "separate_components") refl,
-    (λ h. none_covered (codes "bounding_box") refl,
-    (λ h. none_covered (codes "flip_faces") refl,
-    (λ h. by_place (codes "mesh_to_points") the.mesh_places (λ p. refl),
-    (λ h. none_covered (codes "points_to_vertices") refl,
-    (λ h. none_covered (codes "duplicate_elements") refl,
-    (λ h. none_covered (codes "mesh_line") refl,
-    (λ h. none_covered (codes "grid") refl,
-    (λ h. none_covered (codes "cube") refl,
-    (λ h. none_covered (codes "points") refl,
-    (λ h. file_covered,
-    (λ h. zone_covered, tt))))))))))))))))
+geometry_kinds_covered = (
+  λ h. none_covered (codes "join_geometry") refl,
+  (
+    λ h. none_covered (codes "transform_geometry") refl,
+    (
+      λ h. by_place (codes "delete_geometry") the.any_but_corner (λ p. refl),
+      (
+        λ h. by_place (codes "separate_geometry") the.any_but_corner (λ p. refl),
+        (
+          λ h. none_covered (codes "separate_components") refl,
+          (
+            λ h. none_covered (codes "bounding_box") refl,
+            (
+              λ h. none_covered (codes "flip_faces") refl,
+              (
+                λ h. by_place (codes "mesh_to_points") the.mesh_places (λ p. refl),
+                (
+                  λ h. none_covered (codes "points_to_vertices") refl,
+                  (
+                    λ h. none_covered (codes "duplicate_elements") refl,
+                    (
+                      λ h. none_covered (codes "mesh_line") refl,
+                      (
+                        λ h. none_covered (codes "grid") refl,
+                        (
+                          λ h. none_covered (codes "cube") refl,
+                          (
+                            λ h. none_covered (codes "points") refl,
+                            (
+                              λ h. file_covered,
+                              (λ h. zone_covered, tt),
+                            ),
+                          ),
+                        ),
+                      ),
+                    ),
+                  ),
+                ),
+              ),
+            ),
+          ),
+        ),
+      ),
+    ),
+  ),
+)
 
 instance_kinds_covered : AreCovered the.instance_kinds
 unfolding instance_kinds
-instance_kinds_covered = (λ h. none_covered (codes "geometry_to_instance") refl,
-    (λ h. none_covered (codes "instance_on_points") refl,
-    (λ h. none_covered (codes "realize_instances") refl,
-    (λ h. none_covered (codes "translate_instances") refl,
-    (λ h. none_covered (codes "scale_instances") refl,
-    (λ h. none_covered (codes "instances_to_points") refl, tt))))))
+instance_kinds_covered = (
+  λ h. none_covered (codes "geometry_to_instance") refl,
+  (
+    λ h. none_covered (codes "instance_on_points") refl,
+    (
+      λ h. none_covered (codes "realize_instances") refl,
+      (
+        λ h. none_covered (codes "translate_instances") refl,
+        (
+          λ h. none_covered (codes "scale_instances") refl,
+          (λ h. none_covered (codes "instances_to_points") refl, tt),
+        ),
+      ),
+    ),
+  ),
+)
 
 groups_covered : AreCovered the.groups
 unfolding groups

@@ -87,11 +87,11 @@ mix_kind_in _ = None
 
 abbrev pub bare_kinds : List (Text × NodeKind)
 bare_kinds = (codes "position", position) ∷ (codes "index", index) ∷ (codes "id", id) ∷ (codes "normal", normal) ∷ (codes "edge_vertices", edge_vertices)
-  ∷ (codes "vertex_neighbors", vertex_neighbors) ∷ (codes "clamp", clamp) ∷ (codes "combine_xyz", combine_xyz) ∷ (codes "separate_xyz", separate_xyz) ∷ (codes "domain_size", domain_size)
-  ∷ (codes "set_position", set_position) ∷ (codes "set_id", set_id) ∷ (codes "join_geometry", join_geometry) ∷ (codes "transform_geometry", transform_geometry) ∷ (codes "separate_components", separate_components)
-  ∷ (codes "bounding_box", bounding_box) ∷ (codes "flip_faces", flip_faces) ∷ (codes "points_to_vertices", points_to_vertices) ∷ (codes "duplicate_elements", duplicate_elements) ∷ (codes "mesh_line", mesh_line)
-  ∷ (codes "grid", grid) ∷ (codes "cube", cube) ∷ (codes "points", points) ∷ (codes "geometry_to_instance", geometry_to_instance) ∷ (codes "instance_on_points", instance_on_points)
-  ∷ (codes "realize_instances", realize_instances) ∷ (codes "translate_instances", translate_instances) ∷ (codes "scale_instances", scale_instances) ∷ (codes "instances_to_points", instances_to_points) ∷ []
+    ∷ (codes "vertex_neighbors", vertex_neighbors) ∷ (codes "clamp", clamp) ∷ (codes "combine_xyz", combine_xyz) ∷ (codes "separate_xyz", separate_xyz) ∷ (codes "domain_size", domain_size)
+    ∷ (codes "set_position", set_position) ∷ (codes "set_id", set_id) ∷ (codes "join_geometry", join_geometry) ∷ (codes "transform_geometry", transform_geometry) ∷ (codes "separate_components", separate_components)
+    ∷ (codes "bounding_box", bounding_box) ∷ (codes "flip_faces", flip_faces) ∷ (codes "points_to_vertices", points_to_vertices) ∷ (codes "duplicate_elements", duplicate_elements) ∷ (codes "mesh_line", mesh_line)
+    ∷ (codes "grid", grid) ∷ (codes "cube", cube) ∷ (codes "points", points) ∷ (codes "geometry_to_instance", geometry_to_instance) ∷ (codes "instance_on_points", instance_on_points)
+    ∷ (codes "realize_instances", realize_instances) ∷ (codes "translate_instances", translate_instances) ∷ (codes "scale_instances", scale_instances) ∷ (codes "instances_to_points", instances_to_points) ∷ []
 
 -- a kind without settings, by its name
 abbrev pub named_in_bare : Text → Option NodeKind
@@ -116,8 +116,8 @@ kind_by_value name (value.Vector v) = only (codes "vector") name (Some (vector v
 -- the readers of the settings `op` and `type`, by the names of their kinds
 abbrev pub readers_of_op : List (Text × (Text → Option NodeKind))
 readers_of_op = (codes "math", λ op. option_map math (named_in math_ops op)) ∷ (codes "integer_math", λ op. option_map integer_math (named_in integer_math_ops op))
-  ∷ (codes "vector_math", λ op. option_map vector_math (named_in vector_math_ops op)) ∷ (codes "boolean_math", λ op. option_map boolean_math (named_in boolean_math_ops op))
-  ∷ (codes "float_to_integer", λ op. option_map float_to_integer (named_in round_modes op)) ∷ []
+    ∷ (codes "vector_math", λ op. option_map vector_math (named_in vector_math_ops op)) ∷ (codes "boolean_math", λ op. option_map boolean_math (named_in boolean_math_ops op))
+    ∷ (codes "float_to_integer", λ op. option_map float_to_integer (named_in round_modes op)) ∷ []
 
 abbrev pub readers_of_type : List (Text × (SocketKind → Option NodeKind))
 readers_of_type = (codes "mix", λ of. option_map mix (mix_kind_in of)) ∷ (codes "random_value", λ of. option_map random_value (value_kind_in of)) ∷ (codes "switch", λ of. Some (switch of)) ∷ []

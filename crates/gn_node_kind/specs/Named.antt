@@ -21,25 +21,25 @@ named_in ((word, a) ∷ rest) name = if bytes_eq word name then Some a else name
 
 abbrev pub math_ops : List (Text × MathOp)
 math_ops = (codes "add", math.Add) ∷ (codes "subtract", math.Subtract) ∷ (codes "multiply", math.Multiply) ∷ (codes "divide", math.Divide) ∷ (codes "modulo", math.Modulo)
-  ∷ (codes "minimum", math.Minimum) ∷ (codes "maximum", math.Maximum) ∷ (codes "absolute", math.Absolute) ∷ (codes "sign", math.Sign) ∷ (codes "floor", math.Floor)
-  ∷ (codes "ceil", math.Ceil) ∷ (codes "fraction", math.Fraction) ∷ (codes "sqrt", math.Sqrt) ∷ (codes "less_than", math.LessThan) ∷ (codes "greater_than", math.GreaterThan) ∷ []
+    ∷ (codes "minimum", math.Minimum) ∷ (codes "maximum", math.Maximum) ∷ (codes "absolute", math.Absolute) ∷ (codes "sign", math.Sign) ∷ (codes "floor", math.Floor)
+    ∷ (codes "ceil", math.Ceil) ∷ (codes "fraction", math.Fraction) ∷ (codes "sqrt", math.Sqrt) ∷ (codes "less_than", math.LessThan) ∷ (codes "greater_than", math.GreaterThan) ∷ []
 
 abbrev pub integer_math_ops : List (Text × IntegerMathOp)
 integer_math_ops = (codes "add", integer.Add) ∷ (codes "subtract", integer.Subtract) ∷ (codes "multiply", integer.Multiply) ∷ (codes "divide", integer.Divide)
-  ∷ (codes "modulo", integer.Modulo) ∷ (codes "minimum", integer.Minimum) ∷ (codes "maximum", integer.Maximum) ∷ (codes "absolute", integer.Absolute)
-  ∷ (codes "sign", integer.Sign) ∷ (codes "negate", integer.Negate) ∷ []
+    ∷ (codes "modulo", integer.Modulo) ∷ (codes "minimum", integer.Minimum) ∷ (codes "maximum", integer.Maximum) ∷ (codes "absolute", integer.Absolute)
+    ∷ (codes "sign", integer.Sign) ∷ (codes "negate", integer.Negate) ∷ []
 
 abbrev pub vector_math_ops : List (Text × VectorMathOp)
 vector_math_ops = (codes "add", vector.Add) ∷ (codes "subtract", vector.Subtract) ∷ (codes "multiply", vector.Multiply) ∷ (codes "divide", vector.Divide)
-  ∷ (codes "minimum", vector.Minimum) ∷ (codes "maximum", vector.Maximum) ∷ (codes "absolute", vector.Absolute) ∷ (codes "cross", vector.Cross) ∷ (codes "scale", vector.Scale)
-  ∷ (codes "normalize", vector.Normalize) ∷ (codes "dot", vector.Dot) ∷ (codes "length", vector.Length) ∷ (codes "distance", vector.Distance) ∷ []
+    ∷ (codes "minimum", vector.Minimum) ∷ (codes "maximum", vector.Maximum) ∷ (codes "absolute", vector.Absolute) ∷ (codes "cross", vector.Cross) ∷ (codes "scale", vector.Scale)
+    ∷ (codes "normalize", vector.Normalize) ∷ (codes "dot", vector.Dot) ∷ (codes "length", vector.Length) ∷ (codes "distance", vector.Distance) ∷ []
 
 abbrev pub boolean_math_ops : List (Text × BooleanMathOp)
 boolean_math_ops = (codes "and", boolean.And) ∷ (codes "or", boolean.Or) ∷ (codes "xor", boolean.Xor) ∷ (codes "nand", boolean.Nand) ∷ (codes "nor", boolean.Nor) ∷ (codes "not", boolean.Not) ∷ []
 
 abbrev pub compare_ops : List (Text × CompareOp)
 compare_ops = (codes "less", compare.Less) ∷ (codes "less_equal", compare.LessEqual) ∷ (codes "greater", compare.Greater) ∷ (codes "greater_equal", compare.GreaterEqual)
-  ∷ (codes "equal", compare.Equal) ∷ (codes "not_equal", compare.NotEqual) ∷ []
+    ∷ (codes "equal", compare.Equal) ∷ (codes "not_equal", compare.NotEqual) ∷ []
 
 abbrev pub round_modes : List (Text × RoundMode)
 round_modes = (codes "round", round.Round) ∷ (codes "floor", round.Floor) ∷ (codes "ceil", round.Ceil) ∷ (codes "truncate", round.Truncate) ∷ []

@@ -101,13 +101,21 @@ fn setting(alloc: Global, setting: &Setting) -> Result<Setting, Memory>
 {
     match setting {
         Setting::Of { kind } => Ok(Setting::Of { kind: *kind }),
-        Setting::Op { name } => Ok(Setting::Op { name: name.clone()? }),
+        Setting::Op { name } => Ok(Setting::Op {
+            name: name.clone()?,
+        }),
         Setting::Place { place } => Ok(Setting::Place { place: *place }),
         Setting::Clamp { on } => Ok(Setting::Clamp { on: *on }),
-        Setting::Name { text } => Ok(Setting::Name { text: text.clone()? }),
-        Setting::File { name } => Ok(Setting::File { name: name.clone()? }),
+        Setting::Name { text } => Ok(Setting::Name {
+            text: text.clone()?,
+        }),
+        Setting::File { name } => Ok(Setting::File {
+            name: name.clone()?,
+        }),
         Setting::Value { value } => Ok(Setting::Value { value: *value }),
-        Setting::Group { name } => Ok(Setting::Group { name: name.clone()? }),
+        Setting::Group { name } => Ok(Setting::Group {
+            name: name.clone()?,
+        }),
         Setting::Zone { zone: body } => Ok(Setting::Zone {
             zone: zone(alloc, body)?,
         }),

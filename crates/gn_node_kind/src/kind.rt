@@ -335,11 +335,7 @@ fn kind_by_three(
 /// The kind of a node with the values of its settings, which are copied; a zone keeps these groups, which
 /// are those of its tree. There is none exactly where no kind has this name and these settings: of the
 /// nodes of a tree of its form, the group nodes have none.
-pub fn kind_of(
-    alloc: Global,
-    node: &Node,
-    groups: &Arc<Vec<Group>>,
-) -> Result<Option<Kind>, Memory>
+pub fn kind_of(alloc: Global, node: &Node, groups: &Arc<Vec<Group>>) -> Result<Option<Kind>, Memory>
     ensures { IfOk result (λ kind. option_map seen kind ≡ kind_with (map group_of (arc_value groups.now).items) (kind_in node.now) (settings_in node.now)) }
 {
     let name = node.kind();

@@ -6,10 +6,7 @@ use gn_scopes::Sockets;
 use gn_tree::Socket;
 
 /// The first of these sockets with that name, and its number.
-pub(crate) fn first_socket<'t>(
-    sockets: &Sockets<'t>,
-    name: &str,
-) -> Option<(usize, &'t Socket)>
+pub(crate) fn first_socket<'t>(sockets: &Sockets<'t>, name: &str) -> Option<(usize, &'t Socket)>
     ensures { IsFound (map socket_of sockets.now.list.now) name.now result }
 {
     let number = sockets.names.first(name)?;
