@@ -7,10 +7,10 @@ ghost use Rattle.gn_origin.specs.Forms.{form_prop};
 ghost use Rattle.gn_origin.specs.Looking.{own_sockets};
 
 use crate::list::{List, ids_of};
+use crate::sockets::Sockets;
 use crate::walk::Frame;
 use gn_memory::Memory;
 use gn_names::Names;
-use gn_scopes::Sockets;
 use gn_tree::{Group, Socket, Tree};
 use std::alloc::Global;
 use std::collections::VecDeque;

@@ -5,12 +5,11 @@ ghost use Rattle.gn_tree.specs.Nodes.{kind_in, settings_in, inputs_in};
 
 use crate::groups::{GroupList, Lists};
 use crate::read::{Constant, Read, Site, passed, plain, zero};
-use crate::sockets::first_socket;
+use crate::sockets::Sockets;
 use crate::walk::Frame;
 use gn_kinds::SocketKind;
 use gn_memory::Memory;
 use gn_names::Names;
-use gn_scopes::Sockets;
 use gn_tree::{Node, Setting, Socket, TreeInput, TreeLink};
 use std::alloc::Global;
 
@@ -136,7 +135,7 @@ impl<'s, 't> List<'s, 't> {
     {
         match self.part(node) {
             Part::Group(group) => {
-                let (output, socket) = first_socket(&group.outputs, name)?;
+                let (output, socket) = group.outputs.find(name)?;
                 let frame = Frame {
                     number,
                     node,
@@ -165,7 +164,7 @@ impl<'s, 't> List<'s, 't> {
             → IsRead (tree_by self.entry) fs result (link_read at.body.scope (way_of fs) kind (link_of link.now)) }
     {
         if link.from.as_str() == "input" {
-            let (number, socket) = first_socket(self.entries, &link.socket)?;
+            let (number, socket) = self.entries.find(&link.socket)?;
             return Some(passed(Site::Entry { number, socket }, socket.kind, kind));
         }
         let number = self.ids.first(&link.from)?;

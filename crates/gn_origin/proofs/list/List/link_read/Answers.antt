@@ -17,7 +17,7 @@ pub returns-in_err-number : goal.returns-in_err-number
 returns-in_err-number c fs at =
     let l = c.args.self in
     let k = link_of c.args.link.now in
-    let found : IsFound (map socket_of l.entries.now.list.now) k.socket None = subst (IsFound (map socket_of l.entries.now.list.now) k.socket) c.in_err-number.was (subst (λ t. IsFound (map socket_of l.entries.now.list.now) t c.first_socket.result) c.deref.ensures c.first_socket.ensures) in
+    let found : IsFound (map socket_of l.entries.now.list.now) k.socket None = subst (IsFound (map socket_of l.entries.now.list.now) k.socket) c.in_err-number.was (subst (λ t. IsFound (map socket_of l.entries.now.list.now) t c.find.result) c.deref.ensures c.find.ensures) in
     subst (λ r. IsRead (tree_by l) fs r (link_read at.body.scope (way_of fs) c.args.kind k)) (sym c.from_residual.ensures)
     (entry_lost l fs at c.args.kind k (ap (λ t. bytes_eq t (codes "input")) (sym c.as_str.ensures.value) ∙ (sym c.eq.ensures ∙ c.if-eq.true)) found)
 
@@ -25,7 +25,7 @@ pub returns-then-eq : goal.returns-then-eq
 returns-then-eq c fs at =
     let l = c.args.self in
     let k = link_of c.args.link.now in
-    let found : IsFound (map socket_of l.entries.now.list.now) k.socket (Some (c.in_ok-number.number, c.in_ok-number.socket)) = subst (IsFound (map socket_of l.entries.now.list.now) k.socket) c.in_ok-number.was (subst (λ t. IsFound (map socket_of l.entries.now.list.now) t c.first_socket.result) c.deref.ensures c.first_socket.ensures) in
+    let found : IsFound (map socket_of l.entries.now.list.now) k.socket (Some (c.in_ok-number.number, c.in_ok-number.socket)) = subst (IsFound (map socket_of l.entries.now.list.now) k.socket) c.in_ok-number.was (subst (λ t. IsFound (map socket_of l.entries.now.list.now) t c.find.result) c.deref.ensures c.find.ensures) in
     read_so (tree_by l) fs c.passed.result (site.Entry c.in_ok-number.number c.in_ok-number.socket) (link_read at.body.scope (way_of fs) c.args.kind k) c.passed.ensures.site
     (entry_found l fs at c.args.kind k c.in_ok-number.number c.in_ok-number.socket c.passed.result.conversion (ap (λ t. bytes_eq t (codes "input")) (sym c.as_str.ensures.value) ∙ (sym c.eq.ensures ∙ c.if-eq.true)) found c.passed.ensures.through)
 

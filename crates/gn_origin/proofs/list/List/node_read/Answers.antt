@@ -15,7 +15,7 @@ returns-in_err-output-in-Group c fs at =
     let x = c.args.node in
     let g = c.in-Group.group in
     let is : (above : ℕ) → IsPart (scope_of l above) x.now (part.Group g) = λ above. subst (IsPart (scope_of l above) x.now) c.in-Group.is (c.part.ensures at.groups above (form_here l fs at c.args.number x.now c.requires)) in
-    let looked : IsFound (group_in g.now).outputs c.args.name.now c.first_socket.result = subst (λ xs. IsFound (map socket_of xs) c.args.name.now c.first_socket.result) g.now.with_outputs c.first_socket.ensures in
+    let looked : IsFound (group_in g.now).outputs c.args.name.now c.find.result = subst (λ xs. IsFound (map socket_of xs) c.args.name.now c.find.result) g.now.with_outputs c.find.ensures in
     subst (λ r. IsRead (tree_by l) fs r (node_read at.body.scope (way_of fs) c.args.kind c.args.number x.now c.args.name.now)) (sym c.from_residual.ensures)
     (group_lost l fs at c.args.number x c.args.kind c.args.name.now c.requires g is (subst (IsFound (group_in g.now).outputs c.args.name.now) c.in_err-output-in-Group.was looked))
 
@@ -35,7 +35,7 @@ returns-in_ok-output-in-Group c fs at =
     let o = c.in_ok-output-in-Group.output in
     let socket = c.in_ok-output-in-Group.socket in
     let is : (above : ℕ) → IsPart (scope_of l above) x.now (part.Group g) = λ above. subst (IsPart (scope_of l above) x.now) c.in-Group.is (c.part.ensures at.groups above (form_here l fs at c.args.number x.now c.requires)) in
-    let looked : IsFound (group_in g.now).outputs c.args.name.now c.first_socket.result = subst (λ xs. IsFound (map socket_of xs) c.args.name.now c.first_socket.result) g.now.with_outputs c.first_socket.ensures in
+    let looked : IsFound (group_in g.now).outputs c.args.name.now c.find.result = subst (λ xs. IsFound (map socket_of xs) c.args.name.now c.find.result) g.now.with_outputs c.find.ensures in
     read_so (tree_by l) fs c.passed.result (site.Group (record { number = c.args.number; node = x; group = g }) o socket) (node_read at.body.scope (way_of fs) c.args.kind c.args.number x.now c.args.name.now) c.passed.ensures.site
     (group_found l fs at c.args.number x c.args.kind c.args.name.now c.requires g is (record { number = c.args.number; node = x; group = g }) o socket c.passed.result.conversion refl refl refl
     (subst (IsFound (group_in g.now).outputs c.args.name.now) c.in_ok-output-in-Group.was looked) c.passed.ensures.through)
