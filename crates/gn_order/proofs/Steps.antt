@@ -1,6 +1,6 @@
 -- One step of the walk.
 use Rattle.std.proofs.Common.{◌≡◌, ◌≢◌, ◌<◌, ◌≤◌, ◌+◌, ◌*◌, ◌⊎◌, inl, inr, ℕ, zero, suc, List, [], ◌∷◌, map, length, set, refl, sym, ◌∙◌, ap, subst, arith, get_or-set_same, get_or-set_other, length-set}
-use Rattle.std.specs.Prelude.{Bool, true, false, sum_by, slice_index, ◌==◌, if◌then◌else◌}
+use Rattle.std.specs.Prelude.{Bool, true, false, slice_index, ◌==◌, if◌then◌else◌}
 use Rattle.std.proofs.lemmas.Bool.Decides.{Decides-eqb}
 use Rattle.std.proofs.lemmas.List.Sums.{sum_by-set}
 use Rattle.gn_cycle.specs.Graph.{Graph, targets}
@@ -12,7 +12,7 @@ use Rattle.gn_stands.proofs.Ranked.{rank_bounded}
 use Rattle.gn_order.specs.declared.heights.Visit.{Visit}
 use Rattle.gn_order.specs.Acyclic.{IsAcyclic}
 use Rattle.gn_order.specs.Heights.{at, AreKnown}
-use Rattle.gn_order.specs.Walk.{Knows, Keeps, Found, IsOpen, AreOpen, BeganAt, unknown, top, left, Goes}
+use Rattle.gn_order.specs.Walk.{Knows, Keeps, Found, IsOpen, AreOpen, BeganAt, unknown, top, Goes}
 use Rattle.gn_order.proofs.Ranks.{rank_is}
 
 -- ---- members of lists of nodes

@@ -1,0 +1,9 @@
+//! What the graph that is found for a tree has besides standing for it.
+//!
+//! Its nodes have different paths (`found_paths_differ`), and where the tree keeps the rules, each link leads
+//! to a node that stands before, through any number of groups (`found_graphs_lead_back`). So what makes
+//! a graph may add its nodes in that order. The crate holds definitions and laws alone. It stands on the
+//! graphs of trees in `gn_stands` and on the meaning of trees in `gn_meaning`.
+#![tactic(auto)]
+
+pub mod laws;
