@@ -2,4 +2,5 @@ pub mod Edges
 pub mod Back
 pub mod Linked
 pub mod Differ
+pub mod Filling
 mod Examples

@@ -1,4 +1,5 @@
 ghost use Rattle.gn_found.specs.Claims.{FoundGraphsLeadBack, FoundPathsDiffer};
+ghost use Rattle.gn_found.specs.Filled.{FoundGraphsAreFilledIn};
 
 use gn_stands::TreeMeanings;
 
@@ -11,4 +12,10 @@ pub fn found_graphs_lead_back<N: TreeMeanings>()
 /// No two nodes of the graph that is found for a tree have the same path.
 pub fn found_paths_differ<N: TreeMeanings>()
     ensures { FoundPathsDiffer N.Values }
+{}
+
+/// The graph that is found for a tree over given values is the one that has each constant, and the input,
+/// by name, with the values filled in.
+pub fn found_graphs_are_filled_in<N: TreeMeanings>()
+    ensures { FoundGraphsAreFilledIn N.Values }
 {}
