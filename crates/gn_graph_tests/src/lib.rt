@@ -5,4 +5,6 @@
 #![tactic(auto)]
 
 #[cfg(test)]
+mod laws;
+#[cfg(test)]
 mod order;
