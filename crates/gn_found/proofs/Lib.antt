@@ -3,4 +3,5 @@ pub mod Back
 pub mod Linked
 pub mod Differ
 pub mod Filling
+pub mod Exist
 mod Examples

@@ -1,10 +1,12 @@
 -- The graph of a tree over its constants themselves, in which values are filled in.
-use Rattle.std.specs.Prelude.{◌≡◌, ℕ, List, [], ◌∷◌, map, Option, Some, None, slice_get}
+use Rattle.std.specs.Prelude.{◌≡◌, ℕ, [], ◌∷◌, map, Option, Some, None, slice_get}
 use Rattle.gn_tree.specs.NodeKinds.{Kind}
 use Rattle.gn_tree.specs.Trees.{Tree}
+use Rattle.gn_rules.specs.Rules.{KeepsRules}
 use Rattle.gn_node_set.specs.Meanings.{Absent, Source, a_value, an_item, an_output, Link, Node}
 use Rattle.gn_exec_laws.specs.Graphs.{Task}
 use Rattle.gn_meaning.specs.Sites.{Constant}
+use Rattle.gn_meaning.specs.Forms.{HasForm}
 use Rattle.gn_meaning.specs.Denotation.{Given}
 use Rattle.gn_stands.specs.Tasks.{task_within}
 
@@ -35,3 +37,7 @@ module _ {V : Type 0} (given : Given V) (input : V) where
 abbrev pub FoundGraphsAreFilledIn : (V : Type 0) → Type 0
 FoundGraphsAreFilledIn V = (given : Given V) (input : V) (t : Tree) (k : ℕ) (task : Task Kind (Option Constant)) → slice_get given.inputs 0 ≡ Some input
     → task_within by_name t k ≡ Some task → task_within given t k ≡ Some (fill_task given input task)
+
+-- a graph over names is found for each tree that keeps the rules
+abbrev pub FoundGraphsExist : Type 0
+FoundGraphsExist = (t : Tree) → HasForm t → KeepsRules t → (k : ℕ) × (task : Task Kind (Option Constant)) × (task_within by_name t k ≡ Some task)

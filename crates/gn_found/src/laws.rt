@@ -1,5 +1,5 @@
 ghost use Rattle.gn_found.specs.Claims.{FoundGraphsLeadBack, FoundPathsDiffer};
-ghost use Rattle.gn_found.specs.Filled.{FoundGraphsAreFilledIn};
+ghost use Rattle.gn_found.specs.Filled.{FoundGraphsAreFilledIn, FoundGraphsExist};
 
 use gn_stands::TreeMeanings;
 
@@ -18,4 +18,9 @@ pub fn found_paths_differ<N: TreeMeanings>()
 /// by name, with the values filled in.
 pub fn found_graphs_are_filled_in<N: TreeMeanings>()
     ensures { FoundGraphsAreFilledIn N.Values }
+{}
+
+/// A graph is found for each tree that is of its form and keeps the rules.
+pub fn found_graphs_exist()
+    ensures { FoundGraphsExist }
 {}
