@@ -2,8 +2,9 @@
 //!
 //! Its nodes have different paths (`found_paths_differ`), and where the tree keeps the rules, each link leads
 //! to a node that stands before, through any number of groups (`found_graphs_lead_back`). So what makes
-//! a graph may add its nodes in that order. Constants are kept by name in such a graph, and values are filled
-//! in (`found_graphs_are_filled_in`). The crate holds definitions and laws alone. It stands on the
+//! a graph may add its nodes in that order. Such a graph is found for each tree that
+//! keeps the rules (`found_graphs_exist`), with its constants by name, and values are filled in afterwards
+//! (`found_graphs_are_filled_in`). The crate holds definitions and laws alone. It stands on the
 //! graphs of trees in `gn_stands` and on the meaning of trees in `gn_meaning`.
 #![tactic(auto)]
 

@@ -1,4 +1,6 @@
-use gn_found::laws::{found_graphs_lead_back, found_paths_differ};
+use gn_found::laws::{
+    found_graphs_are_filled_in, found_graphs_exist, found_graphs_lead_back, found_paths_differ,
+};
 use gn_stands::TreeMeanings;
 use std::test::Fail;
 
@@ -39,5 +41,7 @@ impl TreeMeanings for NoValues {
 fn the_laws_can_be_called_at_meanings(_rt: HostRuntime) -> Result<(), Fail> {
     found_graphs_lead_back::<NoValues>();
     found_paths_differ::<NoValues>();
+    found_graphs_are_filled_in::<NoValues>();
+    found_graphs_exist();
     Ok(())
 }
