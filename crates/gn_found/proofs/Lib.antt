@@ -4,4 +4,5 @@ pub mod Linked
 pub mod Differ
 pub mod Filling
 pub mod Exist
+pub mod Bodies
 mod Examples

@@ -1,3 +1,4 @@
+ghost use Rattle.gn_found.specs.Bodies.{RepeatsHaveBodies};
 ghost use Rattle.gn_found.specs.Claims.{FoundGraphsLeadBack, FoundPathsDiffer};
 ghost use Rattle.gn_found.specs.Filled.{FoundGraphsAreFilledIn, FoundGraphsExist};
 
@@ -23,4 +24,10 @@ pub fn found_graphs_are_filled_in<N: TreeMeanings>()
 /// A graph is found for each tree that is of its form and keeps the rules.
 pub fn found_graphs_exist()
     ensures { FoundGraphsExist }
+{}
+
+/// In a tree that is of its form and keeps the rules, no node that is run alone is a repeat: each repeat has
+/// a body.
+pub fn repeats_have_bodies()
+    ensures { RepeatsHaveBodies }
 {}

@@ -1,6 +1,8 @@
 use gn_found::laws::{
     found_graphs_are_filled_in, found_graphs_exist, found_graphs_lead_back, found_paths_differ,
+    repeats_have_bodies,
 };
+use gn_lower::laws::lowered_graphs_stand;
 use gn_stands::TreeMeanings;
 use std::test::Fail;
 
@@ -43,5 +45,7 @@ fn the_laws_can_be_called_at_meanings(_rt: HostRuntime) -> Result<(), Fail> {
     found_paths_differ::<NoValues>();
     found_graphs_are_filled_in::<NoValues>();
     found_graphs_exist();
+    repeats_have_bodies();
+    lowered_graphs_stand::<NoValues>();
     Ok(())
 }
