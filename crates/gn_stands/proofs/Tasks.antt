@@ -59,7 +59,7 @@ module _ {A B : Type 0} (f : A → Option B) where
 
 -- ---- the order of a list has each of its nodes
 
-below_count : (names : List Text) (ns : Nodes) (n : ℕ) (x : TreeNode) → node_at ns n ≡ Some x → n < length (graph_from names ns)
+pub below_count : (names : List Text) (ns : Nodes) (n : ℕ) (x : TreeNode) → node_at ns n ≡ Some x → n < length (graph_from names ns)
 below_count names no_nodes n x e = cc
 below_count names (and_node (node id kind set inputs) ns) zero x e = omega arith
 below_count names (and_node (node id kind set inputs) ns) (suc n) x e = let less : n < length (graph_from names ns) = below_count names ns n x e in omega (arith, less)

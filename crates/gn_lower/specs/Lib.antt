@@ -1,0 +1,3 @@
+pub mod Constants
+pub mod Lowered
+pub mod Claims

@@ -1,0 +1,4 @@
+pub mod Acyclic
+pub mod Heights
+pub mod Walk
+pub mod Buckets
