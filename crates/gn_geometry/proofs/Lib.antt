@@ -1,0 +1,5 @@
+pub mod Fitting
+pub mod Moved
+pub mod Noted
+pub mod Counts
+mod Examples

@@ -1,0 +1,5 @@
+pub mod Notes
+pub mod Fits
+pub mod Meshes
+pub mod Clouds
+pub mod Lending

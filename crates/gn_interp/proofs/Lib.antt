@@ -1,0 +1,4 @@
+pub mod Pairs
+pub mod Corners
+pub mod Gathering
+pub mod ByKind
