@@ -113,17 +113,18 @@ module _ {S : Type 0} (sources : Sources S) (taken : S → ValueKind) (xs : List
 
 -- ---- the kind of a field
 
+module _ {S : Type 0} where
+  pub built_before : (es : List (Expr S)) (xs : List (FieldStep S)) (k : ℕ) → k < length es → named (built_on es xs) k ≡ named es k
+  built_before es [] k h = refl
+  built_before es (x ∷ xs) k h = built_before (es ++ made es x ∷ []) xs k (omega (arith, length-append es (made es x ∷ []))) ∙ get_before es (made es x) k (constant (zero_of Truth)) h
+
 module _ {S : Type 0} (sources : Sources S) where
-  made_kind : (es : List (Expr S)) (x : FieldStep S) → kind_of_field sources (made es x) ≡ kind_at sources x
+  pub made_kind : (es : List (Expr S)) (x : FieldStep S) → kind_of_field sources (made es x) ≡ kind_at sources x
   made_kind es (Constant v) = refl
   made_kind es (Read x) = refl
   made_kind es (Apply op args) = refl
   made_kind es (Elsewhere x args) = refl
   made_kind es (Sampled tag source arg) = refl
-
-  built_before : (es : List (Expr S)) (xs : List (FieldStep S)) (k : ℕ) → k < length es → named (built_on es xs) k ≡ named es k
-  built_before es [] k h = refl
-  built_before es (x ∷ xs) k h = built_before (es ++ made es x ∷ []) xs k (omega (arith, length-append es (made es x ∷ []))) ∙ get_before es (made es x) k (constant (zero_of Truth)) h
 
   kind_in : (es : List (Expr S)) (xs : List (FieldStep S)) (i at : ℕ) (d : FieldStep S) → at ≡ length es + i → i < length xs → kind_of_field sources (named (built_on es xs) at) ≡ kind_at sources (get_or xs i d)
   kind_in es [] i at d e h = absurd (omega arith)

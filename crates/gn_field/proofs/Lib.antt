@@ -6,5 +6,6 @@ mod Sourced
 mod Merging
 mod Joining
 mod Roots
-mod Facts
+pub mod Facts
 mod Owned
+pub mod Together

@@ -4,3 +4,5 @@ pub mod Kinds
 pub mod Merged
 pub mod Codes
 pub mod Faults
+pub mod Contexts
+pub mod Together

@@ -8,6 +8,7 @@ ghost use Rattle.gn_field.specs.Trees.{AgreesOnSources};
 ghost use Rattle.gn_field.specs.Kinds.{step_takes, HasKinds};
 ghost use Rattle.gn_field.specs.Merged.{IsMerged, IsField, Joins, JoinsLeft, Gathers, IsLeft, AreLeft, filled, IsGathering, Finishes};
 ghost use Rattle.gn_field.specs.Faults.{IsFieldFault};
+ghost use Rattle.gn_field.specs.Together.{AgreeOnSources, AreTogether};
 
 use crate::input::{Input, Step};
 use crate::merge::merge;
@@ -71,9 +72,9 @@ impl From<Memory> for FieldFault {
 
 /// The steps of several fields, each once, and the place of each field.
 #[derive(Drop)]
-struct Gathered<S> {
-    steps: Vec<FieldStep<S>>,
-    roots: Vec<u32>,
+pub struct Gathered<S> {
+    pub steps: Vec<FieldStep<S>>,
+    pub roots: Vec<u32>,
 }
 
 /// The steps of a field, and its place.
@@ -398,6 +399,16 @@ impl<S: Source> Field<S> {
     {
         let Gathered { steps, .. } = gather(alloc, fields)?;
         Ok(steps.len() as u32)
+    }
+
+    /// The different subtrees of all these fields, each once: each names earlier ones by their places,
+    /// and arguments have the kinds that are taken. Beside them is the place of each field.
+    pub fn merged(alloc: Global, fields: &[Field<S>]) -> Result<Gathered<S>, Memory>
+        requires few { length fields.now ≤ 65536 }
+        requires one_source { AgreeOnSources fields.now }
+        ensures { IfOk result (λ g. AreTogether S.sources S.taken fields.now g.steps.items g.roots.items) }
+    {
+        gather(alloc, fields)
     }
 
     /// The field's different subtrees: each names earlier ones by their places, and the last is the

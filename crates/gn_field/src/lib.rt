@@ -11,11 +11,13 @@
 //! `gn_value`, and on `gn_lazy` for the paths of nodes.
 #![tactic(auto)]
 
+mod context;
 mod field;
 mod input;
 mod merge;
 mod step;
 
-pub use field::{Field, FieldFault};
+pub use context::Context;
+pub use field::{Field, FieldFault, Gathered};
 pub use input::{Input, Part, Step};
 pub use step::{FieldStep, Source};
