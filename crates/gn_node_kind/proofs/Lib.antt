@@ -1,0 +1,6 @@
+pub mod Lists
+pub mod Many
+pub mod Others
+pub mod AsWritten
+pub mod Covered
+mod Examples

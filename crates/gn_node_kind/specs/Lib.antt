@@ -1,0 +1,5 @@
+pub mod Named
+pub mod Kinds
+pub mod Written
+pub mod Seen
+pub mod Claims
