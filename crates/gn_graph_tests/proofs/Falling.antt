@@ -1,24 +1,17 @@
 -- Where each edge leads to a lower number, no node leads back to itself.
-use Rattle.std.proofs.Common.{◌≡◌, ◌<◌, inl, inr, ℕ, zero, suc, List, [], ◌∷◌, length, refl, sym, subst, arith}
-use Rattle.std.specs.Prelude.{Bool, true, false, ◌==◌, ◌||◌, ◌&&◌, nat_lt, IsTrue, slice_index_or}
+use Rattle.std.proofs.Common.{◌<◌, inl, inr, ℕ, zero, suc, List, [], ◌∷◌, length, refl, sym, subst, arith}
+use Rattle.std.specs.Prelude.{Bool, true, false, ◌&&◌, nat_lt, IsTrue, slice_index_or}
 use Rattle.std.specs.List.{list_all}
-use Rattle.std.proofs.lemmas.Bool.Decides.{Decides-eqb, Decides-ltb}
-use Rattle.gn_cycle.specs.Graph.{Graph, targets, has, Leads, by_edge, further}
+use Rattle.std.proofs.lemmas.Bool.Decides.{Decides-ltb}
+use Rattle.gn_cycle.specs.Graph.{Graph, targets, Leads, by_edge, further}
 use Rattle.gn_node_set.specs.Meanings.{Has}
 use Rattle.gn_order.specs.Acyclic.{IsAcyclic}
+use Rattle.gn_found.proofs.Edges.{has_member}
 use Rattle.gn_graph_tests.specs.Falls.{number_of, are_below}
 
 both : (a b : Bool) → IsTrue (a && b) → IsTrue a × IsTrue b
 both true b h = (refl, h)
 both false b h = cc
-
-has_member : (xs : List ℕ) (x : ℕ) → IsTrue (has xs x) → Has xs x
-has_member [] x h = cc
-has_member (y ∷ xs) x h = by_test (y == x) refl (has_member xs x) h
-  where
-    by_test : (b : Bool) → (y == x) ≡ b → (IsTrue (has xs x) → Has xs x) → IsTrue (b || has xs x) → Has (y ∷ xs) x
-    by_test true e rest k = inl (sym ((Decides-eqb y x).0 e))
-    by_test false e rest k = inr (rest k)
 
 pub all_below : (numbers : List ℕ) (count limit : ℕ) (nodes : List ℕ) → IsTrue (are_below numbers count limit nodes) → (node : ℕ) → Has nodes node → (node < count) × (number_of numbers node < limit)
 all_below numbers count limit [] h node k = absurd k

@@ -3,6 +3,7 @@ use Rattle.std.specs.Prelude.{◌≡◌, List, [], Some, slice_get}
 use Rattle.gn_lazy.specs.Graphs.{Nodes}
 use Rattle.gn_tree.specs.NodeKinds as tree
 use Rattle.gn_tree.specs.Trees.{Tree}
+use Rattle.gn_tree.specs.declared.kind.Kind.{Kind}
 use Rattle.gn_rules.specs.Rules.{KeepsRules}
 use Rattle.gn_node_set.specs.Meanings.{AllDiffer}
 use Rattle.gn_exec_laws.specs.Graphs.{Task}
@@ -13,7 +14,6 @@ use Rattle.gn_stands.specs.Stands.{StandsFor}
 use Rattle.gn_found.specs.Claims.{LinksLeadInto, LinksLeadBack}
 use Rattle.gn_found.specs.Filled.{fill_task}
 use Rattle.gn_lower.specs.declared.constant.Constant.{Constant}
-use Rattle.gn_lower.specs.declared.lowered.Kind.{Kind}
 use Rattle.gn_lower.specs.Lowered.{Lowers}
 
 -- the graph stands for the tree, its nodes have different paths, and its links lead back

@@ -7,7 +7,8 @@ use Rattle.gn_lazy.specs.declared.graph.GraphNode.{GraphNode}
 use Rattle.gn_lazy.specs.Graphs.{Nodes}
 use Rattle.gn_tree.specs.NodeKinds as tree
 use Rattle.gn_tree.specs.Trees.{Node as TreeNode, Tree}
-use Rattle.gn_tree.specs.Seen.{group_of, settings_of}
+use Rattle.gn_tree.specs.declared.kind.Kind.{Kind}
+use Rattle.gn_node_kind.specs.Seen.{written_as}
 use Rattle.gn_rules.specs.Sockets.{node_at, outputs_of}
 use Rattle.gn_node_set.specs.Lists.{all_of}
 use Rattle.gn_node_set.specs.Meanings.{Has, Source, a_value, an_output, Link, Node}
@@ -19,11 +20,7 @@ use Rattle.gn_meaning.specs.There.{LeadsTo}
 use Rattle.gn_stands.specs.Tasks.{task_within}
 use Rattle.gn_found.specs.Filled.{by_name}
 use Rattle.gn_lower.specs.declared.constant.Constant.{Constant}
-use Rattle.gn_lower.specs.declared.lowered.Kind.{Kind}
 use Rattle.gn_lower.specs.Constants.{name_of}
-
-abbrev pub kind_of : Kind → tree.Kind
-kind_of kind = record { name = kind.name.now; settings = settings_of kind.settings.now; groups = map group_of kind.groups.now }
 
 -- what a graph gives by name: none for its input
 abbrev pub Named : Type 0
@@ -40,7 +37,7 @@ module _ (nodes : List (GraphNode Kind)) (constants : List Constant) where
   link_of link = option_map (λ x. record { from = x; through = link.through.items }) (source_of link.origin)
 
   abbrev pub node_of : GraphNode Kind → Option (Node tree.Kind Named)
-  node_of node = option_map (λ links. record { path = node.path.steps.items; kind = kind_of node.kind; links = links }) (all_of (map link_of node.inputs.items))
+  node_of node = option_map (λ links. record { path = node.path.steps.items; kind = written_as node.kind; links = links }) (all_of (map link_of node.inputs.items))
 
 -- the graph with its constants, where each link leads to something
 abbrev pub task_of : Nodes Kind → List Constant → Option (Task tree.Kind Named)
