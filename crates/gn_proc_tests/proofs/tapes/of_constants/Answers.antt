@@ -1,0 +1,7 @@
+use Rattle.std.proofs.Common.{◌≡◌, None, sym, subst}
+use Rattle.gn_field.specs.Steps.{exprs_of}
+use Rattle.gn_field.specs.Trees.{HaveSources}
+use Rattle.gn_proc_tests.proofs.tapes.of_constants.Goals as goal
+
+pub build-requires-clause-one_source : goal.build-requires-clause-one_source
+build-requires-clause-one_source g c κs within = (λ _. None, subst (λ es. HaveSources (λ _. None) (exprs_of es)) (sym c.deref.ensures.value) c.in_ok-fields.ensures.plain)
