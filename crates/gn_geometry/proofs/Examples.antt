@@ -2,9 +2,14 @@
 use Rattle.std.proofs.Common.{◌≡◌, ℕ, true, false, List, [], ◌∷◌, Some, None, pos, refl}
 use Rattle.gn_value.specs.declared.value.Place.TheVariants.{Point, Edge, Face, Corner, Cloud, Instance}
 use Rattle.gn_shared.specs.Count.{Count}
+use Rattle.gn_plain.specs.Geometry as plain
 use Rattle.gn_plain.proofs.Samples.{two_triangles}
 use Rattle.gn_geometry.specs.Fits.{mesh_count, cloud_count}
 use Rattle.gn_geometry.specs.Notes.{noted_each}
+use Rattle.gn_geometry.specs.Meshes.{MeshView}
+use Rattle.gn_geometry.specs.Clouds.{CloudView}
+use Rattle.gn_geometry.specs.Geometries.{GeometryView, geometry, instances, no_parts, part, depth, plain_geometry}
+use Rattle.gn_geometry.specs.declared.geometry.Transform.{Transform}
 
 abbrev count : ℕ → Count
 count copies = record { runs = 0; copies = copies }
@@ -26,3 +31,16 @@ a_cloud_has_points_alone = refl
 
 a_cloud_has_no_vertices : cloud_count 3 Point ≡ None
 a_cloud_has_no_vertices = refl
+
+-- a geometry of any mesh and cloud, and one that places it
+abbrev inner : MeshView → CloudView → GeometryView
+inner m c = geometry m c (instances no_parts [] [])
+
+abbrev outer : MeshView → CloudView → Transform → GeometryView
+outer m c t = geometry m c (instances (part (inner m c) no_parts) ((t, 0) ∷ []) [])
+
+one_is_in_the_other : (m : MeshView) (c : CloudView) (t : Transform) → depth (outer m c t) ≡ 1
+one_is_in_the_other m c t = refl
+
+it_is_placed_by_its_number : (m : MeshView) (c : CloudView) (t : Transform) → plain.parts (plain.placed_in (plain_geometry (outer m c t)).instances) ≡ plain_geometry (inner m c) ∷ []
+it_is_placed_by_its_number m c t = refl

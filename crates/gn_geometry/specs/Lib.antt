@@ -3,3 +3,5 @@ pub mod Fits
 pub mod Meshes
 pub mod Clouds
 pub mod Lending
+pub mod Geometries
+pub mod Codes

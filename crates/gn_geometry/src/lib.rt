@@ -1,4 +1,5 @@
-//! Geometry as the program keeps it: meshes and clouds of points in shared arrays, with columns.
+//! Geometry as the program keeps it: meshes and clouds of points in shared arrays, and instances of
+//! geometries, with columns.
 //!
 //! A column of a mesh or a cloud has a value for each element of its place, and keeps this from
 //! `set_column` on. Positions are written in place where the handle on them is the only one of its
@@ -11,9 +12,11 @@
 
 mod arrays;
 pub mod cloud;
+pub mod geometry;
 pub mod lend;
 pub mod mesh;
 
 pub use cloud::Cloud;
+pub use geometry::{Geometry, Instances, Transform};
 pub use gn_value::op::Topology;
 pub use mesh::Mesh;
