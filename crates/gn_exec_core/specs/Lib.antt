@@ -1,2 +1,6 @@
 pub mod Values
 pub mod Calls
+pub mod States
+pub mod Holds
+pub mod Jobs
+pub mod Starts

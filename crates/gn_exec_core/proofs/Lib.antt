@@ -1,0 +1,10 @@
+pub mod Refusals
+pub mod Using
+pub mod Readying
+pub mod Selecting
+pub mod Taking
+pub mod Starting
+pub mod Adding
+pub mod Beginning
+pub mod Handing
+mod Examples

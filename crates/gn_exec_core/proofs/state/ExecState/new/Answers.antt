@@ -1,0 +1,48 @@
+use Rattle.std.proofs.Common.{◌≡◌, ◌≤◌, length, map, None, true, sym, ap, subst, ◌∙◌, arith}
+use Rattle.std.specs.Vec.{vec_capacity}
+use Rattle.std.specs.Prelude.{option_map, is_some, slice_index_or}
+use Rattle.std.proofs.lemmas.List.{length-map}
+use Rattle.gn_exec_core.specs.States.{seen}
+use Rattle.gn_exec_core.specs.Jobs.{Holds, lists_of}
+use Rattle.gn_exec_core.specs.Starts.{start_value, HasNumbers}
+use Rattle.gn_exec_core.proofs.Starting.{all_carry, each_may_choose, chosen_switch}
+use Rattle.gn_exec_core.proofs.Beginning.{rows_counted, begun_all, seen_begun}
+use Rattle.gn_exec_core.proofs.state.ExecState.new.Goals as goal
+
+pub rows_of-requires-after_bounds : goal.rows_of-requires-after_bounds
+rows_of-requires-after_bounds g c keys lives =
+    let count = length-map c.args.given.items g.N.NodeSet.content ∙ c.requires.given in
+    all_carry g.N.NodeSet.meanings g.N.NodeSet.kind_of g.N.NodeSet.content c.args.graph (map g.N.NodeSet.content c.args.given.items) g.N.NodeSet.lawful c.requires.start count c.look_at.ensures
+
+pub choices_of-requires-clause-same : goal.choices_of-requires-clause-same
+choices_of-requires-clause-same g c keys lives =
+    rows_counted (λ row. map (option_map g.N.NodeSet.content) row) c.in_ok-rows.rows.items (λ at. map (start_value g.N.NodeSet.meanings (map g.N.NodeSet.content c.args.given.items)) at.inputs.items) c.args.graph.nodes (λ r. r.items) c.in_ok-rows.ensures.values
+
+pub choices_of-requires-clause-may : goal.choices_of-requires-clause-may
+choices_of-requires-clause-may g c keys lives =
+    let count = length-map c.args.given.items g.N.NodeSet.content ∙ c.requires.given in
+    each_may_choose g.N.NodeSet.meanings g.N.NodeSet.kind_of g.N.NodeSet.content c.args.graph (map g.N.NodeSet.content c.args.given.items) g.N.NodeSet.lawful c.requires.start count c.look_at.ensures c.requires.conditions (lists_of c.in_ok-rows.rows.items) c.in_ok-rows.ensures.values
+
+pub numbered-requires-clause-len : goal.numbered-requires-clause-len
+numbered-requires-clause-len g c keys lives = ap length c.deref.ensures.value ∙ c.in_ok-choices.ensures.len
+
+pub numbered-requires-clause-chosen : goal.numbered-requires-clause-chosen
+numbered-requires-clause-chosen g c keys lives n at e some =
+    let count = length-map c.args.given.items g.N.NodeSet.content ∙ c.requires.given in
+    chosen_switch g.N.NodeSet.meanings g.N.NodeSet.kind_of g.N.NodeSet.content c.args.graph (map g.N.NodeSet.content c.args.given.items) g.N.NodeSet.lawful c.requires.start count c.look_at.ensures (lists_of c.in_ok-rows.rows.items) c.in_ok-choices.choices.items c.in_ok-choices.ensures.chosen n at e
+    (subst (λ os. is_some (slice_index_or os n None) ≡ true) c.deref.ensures.value some)
+
+pub invariant_of-result : goal.invariant_of-result
+invariant_of-result g c =
+    let are = subst (λ os. HasNumbers g.N.NodeSet.meanings g.N.NodeSet.kind_of c.args.graph.nodes os c.in_ok-uses.uses.nodes) c.deref.ensures.value c.in_ok-uses.ensures.nodes in
+    let is : c.of-about.result.value.items ≡ c.args.given.items = ap (λ v. v.items) c.of-about.ensures in
+    let enough : 64 ≤ vec_capacity c.in_ok-journal.journal = omega (arith, c.in_ok-journal.ensures.exact) in
+    let all = begun_all g.N.NodeSet.meanings g.N.NodeSet.kind_of g.N.NodeSet.content c.args.graph c.args.given.items c.requires.start c.requires.conditions c.look_at.ensures
+    (lists_of c.in_ok-rows.rows.items) c.in_ok-rows.ensures.values c.in_ok-choices.choices.items c.in_ok-choices.ensures.chosen c.in_ok-uses.uses are c.in_ok-uses.ensures.roots c.in_ok-uses.ensures.taken
+    c.of-about.result.value.items c.in_ok-journal.journal.items c.in_ok-refused.refused.items (vec_capacity c.in_ok-journal.journal) is c.in_ok-journal.ensures.items (c.in_ok-refused.ensures.items_if_clones_equal (λ y h. h)) enough in
+    (all.0, all.1, subst (λ os. Holds g.N.NodeSet.meanings g.N.NodeSet.kind_of g.N.NodeSet.content (seen c.args.graph c.of-about.result.value.items c.in_ok-journal.journal.items) c.in_ok-uses.uses c.in_ok-choices.choices.items (lists_of c.in_ok-rows.rows.items) os) (sym c.new.ensures.items) all.2)
+
+pub returns-clause-state : goal.returns-clause-state
+returns-clause-state g c =
+    let is : c.of-about.result.value.items ≡ c.args.given.items = ap (λ v. v.items) c.of-about.ensures in
+    seen_begun c.args.graph c.args.given.items c.of-about.result.value.items c.in_ok-journal.journal.items c.in_ok-journal.ensures.items is

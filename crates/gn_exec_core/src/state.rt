@@ -1,0 +1,197 @@
+ghost use Rattle.std.specs.Prelude.{◌≡◌, ◌<◌, ◌+◌, IfOk, length, map, slice_get};
+ghost use Rattle.std.specs.List.{list_any};
+ghost use Rattle.gn_exec_core.specs.States.{refused_by, any_refuses};
+ghost use Rattle.gn_lazy.specs.Graphs.{IsOrdered};
+ghost use Rattle.gn_exec_laws.specs.Fits.{CanStart};
+ghost use Rattle.gn_exec_laws.specs.Tasks.{task_of};
+ghost use Rattle.gn_exec_core.specs.Holds.{HaveConditions};
+ghost use Rattle.gn_exec_core.specs.Jobs.{Takes};
+ghost use Rattle.gn_exec_core.specs.Starts.{begun};
+
+use crate::jobs::{Taken, answer_out, blank, choice_at, inputs_at, read_values, row_out};
+use crate::node_set::NodeSet;
+use crate::start::{choices_of, numbered, rows_of};
+use crate::values::Answer;
+use gn_lazy::Graph;
+use gn_memory::Memory;
+use gn_shared::Meter;
+use gn_uses::{Choice, Uses};
+use std::marker::Model;
+use std::snapshot::Snapshot;
+
+/// One event. What was handed on whole stays known to contracts.
+#[derive(Drop)]
+enum Happened<V> {
+    /// A worker took a node.
+    Take {
+        worker: u32,
+        node: u64,
+    },
+    /// A worker finished a node, with these outputs.
+    Finish {
+        worker: u32,
+        node: u64,
+        outputs: Snapshot<Vec<V>>,
+    },
+    /// An import got its answer.
+    Serve {
+        node: u64,
+        answer: Snapshot<Answer>,
+    },
+    /// A worker takes no more.
+    Refuse {
+        worker: u32,
+    },
+}
+
+/// The state of the executor, between events.
+///
+/// Contracts see the graph and the values that it began with, the events since, and the outputs that
+/// were handed in, the last ones first.
+#[derive(Drop)]
+pub struct ExecState<N: NodeSet> {
+    graph: Graph<N::Kind>,
+    given: Snapshot<Vec<N::Value>>,
+    journal: Vec<Happened<N::Value>>,
+    /// Which of the 64 workers have refused.
+    refused: Vec<bool>,
+    /// The nodes by their numbers: which are used, and which are ready.
+    uses: Uses,
+    /// What each switch has chosen, once its condition is known.
+    choices: Vec<Option<Choice>>,
+    /// For each input of each node its value, from when it is set until the node is taken.
+    rows: Vec<Vec<Option<N::Value>>>,
+    /// The answer of each import, until the node is taken.
+    answers: Vec<Option<Answer>>,
+}
+
+impl<N: NodeSet> Model for ExecState<N> {
+    ghost use Rattle.std.specs.Prelude.{vec_capacity};
+    ghost use Rattle.gn_exec_core.specs.States.{State, seen, events_of, HasFlags, IsReached};
+    ghost use Rattle.gn_exec_core.specs.Jobs.{Holds, lists_of};
+
+    ghost Value = { State N.Kind N.Value };
+
+    ghost view = { λ s. seen s.graph s.given.value.items s.journal.items };
+
+    ghost invariant = { λ s. HasFlags s.refused.items (events_of s.journal.items) (vec_capacity s.journal) × IsReached N.meanings N.kind_of N.content (seen s.graph s.given.value.items s.journal.items) × Holds N.meanings N.kind_of N.content (seen s.graph s.given.value.items s.journal.items) s.uses s.choices.items (lists_of s.rows.items) s.answers.items };
+}
+
+impl<N: NodeSet> ExecState<N> {
+    /// A state with no event yet. The first given value is what the graph is given, and behind it come
+    /// the graph's constants. No run is noted.
+    ///
+    /// Condition: the graph fits with the given values, of which there is one more than the graph has
+    /// constants, and each switch has a condition.
+    pub fn new<L>(
+        nodes: &N,
+        graph: Graph<N::Kind>,
+        given: Vec<N::Value>,
+        meter: &mut Meter<L>,
+    ) -> Result<ExecState<N>, Memory>
+        requires start { CanStart N.meanings (task_of N.kind_of N.meanings.nothing graph (map N.content given.items)) }
+        requires given { length given.items ≡ graph.constants + 1 }
+        requires conditions { HaveConditions N.meanings N.kind_of graph.nodes }
+        ensures state { IfOk result (λ s. s ≡ begun graph given.items) }
+        ensures runs { meter.new.runs ≡ meter.old.runs }
+    {
+        let alloc = *given.allocator();
+        let about = Snapshot::of(&given);
+        let mut given = given;
+        look_at(&graph);
+        let rows = rows_of(nodes, &graph, &mut given, meter)?;
+        let choices = choices_of(nodes, &graph, &rows)?;
+        let uses = numbered(nodes, alloc, &graph, &choices)?;
+        let journal = Vec::with_capacity(alloc, 64)?;
+        let refused = vec![in alloc; false; 64]?;
+        Ok(ExecState {
+            graph,
+            given: about,
+            journal,
+            refused,
+            uses,
+            choices,
+            rows,
+            answers: Vec::new(alloc),
+        })
+    }
+
+    /// A worker takes no more. Its first refusal is an event, for which there is room; a later one
+    /// changes nothing.
+    ///
+    /// Condition: the worker's number is below 64.
+    pub fn refuse(&mut self, worker: u32)
+        requires { worker < 64 }
+        ensures { self.new ≡ refused_by self.old worker }
+    {
+        if self.refused[worker as usize] {
+            return;
+        }
+        self.refused[worker as usize] = true;
+        self.journal.push_reserved(Happened::Refuse { worker });
+    }
+
+    /// Hands out the first node that is ready, which is one event. The answer is `Nothing`, with no
+    /// event, exactly where no node is ready or a worker has refused. A refusal changes nothing.
+    ///
+    /// Condition: the worker's number is below 64.
+    pub fn take(&mut self, nodes: &N, worker: u32) -> Taken<N::Kind, N::Value>
+        requires { worker < 64 }
+        ensures { Takes N.meanings N.kind_of N.content self.old worker result self.new }
+    {
+        if any_set(&self.refused) {
+            return Taken::Nothing;
+        }
+        let Some(number) = first_of(self.uses.ready()) else {
+            return Taken::Nothing;
+        };
+        let Some(at) = self.graph.node(number as u64) else {
+            unreachable!();
+        };
+        let alloc = *self.journal.allocator();
+        let role = nodes.role(&at.kind);
+        let room = inputs_at(&self.rows, number);
+        let Ok(mut job) = blank(nodes, alloc, number as u64, at, room) else {
+            return Taken::Memory;
+        };
+        if self.journal.reserve(65).is_err() {
+            return Taken::Memory;
+        }
+        self.uses.take();
+        let row = row_out(&mut self.rows, number, alloc);
+        read_values(role, choice_at(&self.choices, number), row, &mut job.inputs);
+        job.answer = answer_out(&mut self.answers, number);
+        self.journal.push_reserved(Happened::Take {
+            worker,
+            node: number as u64,
+        });
+        Taken::Job(job)
+    }
+
+    /// Whether a worker has refused.
+    pub fn refused(&self) -> bool
+        ensures { result ≡ any_refuses self.now.events }
+    {
+        any_set(&self.refused)
+    }
+}
+
+/// The links of a graph lead back.
+fn look_at<K: Drop>(graph: &Graph<K>)
+    ensures { IsOrdered graph.now }
+{
+    let _ = graph.node(0);
+    let _ = graph.roots();
+}
+
+fn first_of(numbers: &[usize]) -> Option<usize>
+    ensures { result ≡ slice_get numbers.now 0 }
+{
+    numbers.first().copied()
+}
+
+fn any_set(flags: &[bool]) -> bool
+    ensures { result ≡ list_any (λ flag. flag) flags.now }
+{
+    flags.iter().any(|flag| *flag)
+}
