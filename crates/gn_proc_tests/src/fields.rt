@@ -26,7 +26,11 @@ pub(crate) fn pair<S: Source>(
 
 /// The sum of two fields of integers without sampled parts.
 #[tactic(auto, unfolding(gn_value::specs::Operations::Takes, gn_value::specs::Operations::gives))]
-fn sum<S: Source>(alloc: Global, a: Field<S>, b: Field<S>) -> Result<Field<S>, FieldFault>
+pub(crate) fn sum<S: Source>(
+    alloc: Global,
+    a: Field<S>,
+    b: Field<S>,
+) -> Result<Field<S>, FieldFault>
     requires a { kind_of_field S.sources a ≡ Int }
     requires b { kind_of_field S.sources b ≡ Int }
     requires plain_a { HasSources (λ _. None) a }
