@@ -1,0 +1,12 @@
+//! Tests of columns, of interpolation and of geometry with columns, each by its public calls.
+//!
+//! They are in a crate of their own, since a crate with tests is proved once more for them. The crate promises
+//! nothing of its own.
+#![tactic(auto)]
+
+#[cfg(test)]
+mod attr;
+#[cfg(test)]
+mod cloud;
+#[cfg(test)]
+mod interp;
