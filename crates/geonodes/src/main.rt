@@ -11,7 +11,7 @@ ghost use Rattle.std.specs.Process.{exit_status};
 ghost use Rattle.gn_app.specs.Ending.{no_memory, said_of};
 ghost use Rattle.gn_app.specs.Run.{Between, Tells, outside_of, shelf_by, sink_by};
 ghost use Rattle.gn_shared.specs.Count.{Count, nothing_noted};
-ghost use Rattle.geonodes.specs.Runs.{Runs};
+ghost use Rattle.geonodes.specs.Runs.{IsRun, Runs};
 
 mod words;
 
@@ -28,8 +28,31 @@ use std::thread::Threads;
 #[derive(Clone, Copy)]
 struct Seal;
 
-/// Runs the command that the words spell, if they spell one, with a meter of its own, and returns the
-/// exit status.
+/// Runs the command that the texts spell, with a meter of its own, and returns its exit status.
+fn run_texts<R, H, K, E>(
+    rt: &R,
+    alloc: Global,
+    texts: &[String],
+    shelf: &mut H,
+    out: &mut K,
+    err: &mut E,
+) -> ExitCode
+where
+    R: Threads + Wait + Sync,
+    H: Shelf,
+    K: Sink,
+    E: Sink,
+    ensures { (noted : Count) × Between (outside_of (shelf_by H.holds H.asked H.missed H.faults H.misses) (sink_by K.held K.faults))
+        (shelf.old, out.old, nothing_noted) (shelf.new, out.new, noted)
+        (IsRun (map string_bytes texts.now) (exit_status result) (sink_by E.held E.faults err.old) (sink_by E.held E.faults err.new)) }
+{
+    let mut meter = Meter::new(Seal);
+    let status = run(rt, alloc, texts, shelf, out, err, &OpenGate, &mut meter);
+    let _ = meter.spend(Seal);
+    ExitCode::from(status.code())
+}
+
+/// Runs the command that the words spell, if they spell one, and returns the exit status.
 fn run_words<R, H, K, E>(
     rt: &R,
     alloc: Global,
@@ -48,22 +71,10 @@ where
         (Runs (map string_bytes words.now.texts.items) (option_map (λ word. word.items) words.now.stray) (exit_status result)
         (sink_by E.held E.faults err.old) (sink_by E.held E.faults err.new)) }
 {
-    if let Some(stray) = &words.stray {
-        return ExitCode::from(refuse_stray(&words.texts, stray, err).code());
+    match &words.stray {
+        Some(stray) => ExitCode::from(refuse_stray(&words.texts, stray, err).code()),
+        None => run_texts(rt, alloc, &words.texts, shelf, out, err),
     }
-    let mut meter = Meter::new(Seal);
-    let status = run(
-        rt,
-        alloc,
-        &words.texts,
-        shelf,
-        out,
-        err,
-        &OpenGate,
-        &mut meter,
-    );
-    let _ = meter.spend(Seal);
-    ExitCode::from(status.code())
 }
 
 /// Reports that there is no memory for the words, and returns the exit status.
