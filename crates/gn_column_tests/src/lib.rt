@@ -9,4 +9,6 @@ mod attr;
 #[cfg(test)]
 mod cloud;
 #[cfg(test)]
+mod geometry;
+#[cfg(test)]
 mod interp;

@@ -13,7 +13,7 @@ use Rattle.gn_attr.specs.declared.column.Column.{Column}
 abbrev pub mesh_count : Shape → Place → Option ℕ
 mesh_count s p = if is_of_mesh p then Some (count_in s p) else None
 
--- so many elements on one place alone
+-- `count` elements on one place, and no other place
 abbrev pub count_only : Place → ℕ → Place → Option ℕ
 count_only only count p = if same_place only p then Some count else None
 

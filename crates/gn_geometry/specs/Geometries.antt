@@ -72,7 +72,7 @@ set_transform (item ∷ items) i t = slice_set (item ∷ items) i (t, (slice_ind
 abbrev pub with_transform : InstancesView → ℕ → Transform → InstancesView
 with_transform (instances parts items columns) i t = instances parts (set_transform items i t) columns
 
--- how many elements so many instances have on a place, where that is their place
+-- the number of instances on their own place, the only one that they have
 abbrev pub instance_count : ℕ → Place → Option ℕ
 instance_count items = count_only Instance items
 

@@ -7,6 +7,7 @@ ghost use Rattle.gn_attr.specs.Handles as handles;
 ghost use Rattle.gn_attr.specs.Handles.{Owns};
 ghost use Rattle.gn_attr.specs.Columns.{values_of};
 ghost use Rattle.gn_attr.specs.Writing.{CanTake, IsWritten};
+ghost use Rattle.gn_geometry.specs.Fits.{cloud_count, AreFitting};
 ghost use Rattle.gn_geometry.specs.Notes.{noted_each, NotesFirst};
 ghost use Rattle.gn_geometry.specs.Clouds.{cloud_copies, moved, with_columns, IsSole, IsTwinCloud, KeepsCloud};
 
@@ -69,9 +70,10 @@ impl Cloud {
         own(alloc, &mut self.points, meter)
     }
 
-    /// The columns.
+    /// The columns. Each has a value for each point.
     pub fn columns(&self) -> &Columns
-        ensures { result.now ≡ self.now.columns }
+        ensures columns { result.now ≡ self.now.columns }
+        ensures fit { AreFitting (cloud_count (length self.now.points.items)) result.now }
     {
         &self.columns
     }

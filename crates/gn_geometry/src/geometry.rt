@@ -5,12 +5,16 @@ ghost use Rattle.gn_plain.specs.Geometry as plain;
 ghost use Rattle.gn_value.specs.declared.value.Place.TheVariants as place;
 ghost use Rattle.gn_attr.specs.Names.{plain_name};
 ghost use Rattle.gn_attr.specs.Columns.{values_of};
-ghost use Rattle.gn_geometry.specs.Geometries.{columns_in, depth, instances, items_in, parts_in, parts_of, plain_geometry, with_columns, with_transform, IsSole};
+ghost use Rattle.gn_geometry.specs.Fits.{AreFitting};
+ghost use Rattle.gn_geometry.specs.Notes.{noted_each, NotesFirst};
+ghost use Rattle.gn_geometry.specs.Geometries.{columns_in, depth, geometry_copies, instance_count, instances, items_in, parts_in, parts_of, plain_geometry, with_columns, with_transform, IsSole, IsTwinGeometry, KeepsGeometry};
 
 use crate::cloud::Cloud;
 use crate::mesh::Mesh;
+use crate::twins::second_geometry;
 use gn_attr::{Column, Columns, Name, NoSpace};
 use gn_memory::Memory;
+use gn_shared::Meter;
 use gn_value::{Place, V3};
 use std::alloc::Global;
 use std::marker::Model;
@@ -35,9 +39,9 @@ pub struct Geometry {
 #[cycle(geometry)]
 #[derive(Drop)]
 pub struct Instances {
-    parts: Vec<Geometry>,
-    items: Vec<(Transform, u32)>,
-    columns: Columns,
+    pub(crate) parts: Vec<Geometry>,
+    pub(crate) items: Vec<(Transform, u32)>,
+    pub(crate) columns: Columns,
 }
 
 impl Model for Instances {
@@ -119,6 +123,17 @@ impl Geometry {
         }
         most
     }
+
+    /// The same geometry once more: each array whose handle has more than one part is shared, and
+    /// any other is copied, which is noted.
+    pub fn second<L>(&mut self, alloc: Global, meter: &mut Meter<L>) -> Result<Geometry, Memory>
+        ensures kept { KeepsGeometry self.old self.new }
+        ensures twin { IfOk result (IsTwinGeometry self.old) }
+        ensures noted { OnOk result (meter.new ≡ noted_each (geometry_copies self.old) meter.old) }
+        ensures refused { OnErr result (NotesFirst (geometry_copies self.old) meter.old meter.new) }
+    {
+        second_geometry(alloc, self, meter)
+    }
 }
 
 impl Instances {
@@ -178,9 +193,10 @@ impl Instances {
         (self.parts, self.items)
     }
 
-    /// The columns.
+    /// The columns. Each has a value for each instance.
     pub fn columns(&self) -> &Columns
-        ensures { result.now ≡ columns_in self.now }
+        ensures columns { result.now ≡ columns_in self.now }
+        ensures fit { AreFitting (instance_count (length (items_in self.now))) result.now }
     {
         &self.columns
     }

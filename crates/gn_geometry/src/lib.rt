@@ -15,6 +15,7 @@ pub mod cloud;
 pub mod geometry;
 pub mod lend;
 pub mod mesh;
+mod twins;
 
 pub use cloud::Cloud;
 pub use geometry::{Geometry, Instances, Transform};

@@ -10,7 +10,7 @@ ghost use Rattle.gn_attr.specs.Columns.{values_of};
 ghost use Rattle.gn_attr.specs.Writing.{CanTake, IsWritten};
 ghost use Rattle.gn_geom.specs.Meshes.{HasTopology, plain_of, topology, topology_of};
 ghost use Rattle.gn_geometry.specs.Notes.{noted_each, NotesFirst};
-ghost use Rattle.gn_geometry.specs.Fits.{mesh_count, Fits};
+ghost use Rattle.gn_geometry.specs.Fits.{mesh_count, AreFitting, Fits};
 ghost use Rattle.gn_geometry.specs.Meshes.{mesh_copies, plain_mesh, with_columns, with_points, IsSole, IsTwinMesh, KeepsMesh};
 
 use crate::arrays::Arrays;
@@ -145,9 +145,10 @@ impl Mesh {
         }
     }
 
-    /// The columns.
+    /// The columns. Each has a value for each element of its place, which is one of a mesh.
     pub fn columns(&self) -> &Columns
-        ensures { result.now ≡ self.now.columns }
+        ensures columns { result.now ≡ self.now.columns }
+        ensures fit { AreFitting (mesh_count (plain_of self.now.shape)) result.now }
     {
         &self.columns
     }

@@ -1,0 +1,5 @@
+pub mod Transforms
+pub mod Joins
+pub mod Appended
+pub mod Limits
+pub mod Realized
