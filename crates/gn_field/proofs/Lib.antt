@@ -9,3 +9,4 @@ mod Roots
 pub mod Facts
 mod Owned
 pub mod Together
+mod Contexts

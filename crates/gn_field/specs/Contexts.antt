@@ -44,9 +44,13 @@ pub record HasTopology (c : Component) (t : Topology) : Type 0 where
 abbrev pub KeepsValues : Component → Place → Type 0
 KeepsValues c p = (kind : ValueKind) (q : Place) (value : ℕ → Value) (i : ℕ) → c.has q ≡ true → c.interpolated kind q p value i ≡ value i
 
--- on a place of a mesh there is a topology, and elsewhere none
+-- a component has one place
+abbrev pub HasOnly : Component → Place → Type 0
+HasOnly c p = (q : Place) → c.has q ≡ true → q ≡ p
+
+-- on a place of a mesh there is a topology; elsewhere there is none, and no second place
 abbrev pub IsTopologyOf : Context → Option code.Topology → Type 0
 IsTopologyOf nowhere None = Unit {0}
 IsTopologyOf nowhere (Some t) = ⊥
-IsTopologyOf (on c p) None = (is_of_mesh p ≡ false) × KeepsValues c p
+IsTopologyOf (on c p) None = (is_of_mesh p ≡ false) × (KeepsValues c p × HasOnly c p)
 IsTopologyOf (on c p) (Some t) = (is_of_mesh p ≡ true) × HasTopology c (topology_of t)
