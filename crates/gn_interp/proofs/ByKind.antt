@@ -12,12 +12,12 @@ use Rattle.gn_value.specs.declared.value.Value.TheVariants as v
 use Rattle.gn_value.specs.declared.op.Axis.TheVariants.{X, Y, Z}
 use Rattle.gn_value.specs.declared.value.Place.{Place}
 use Rattle.gn_plain.specs.Equality.{same_place}
-use Rattle.gn_plain.specs.Geometry.{Shape}
 use Rattle.gn_plain.specs.Columns.{Values, truths, ints, fixed_numbers, vectors, count_of_values, kind_of_values, value_of}
-use Rattle.gn_plain.specs.Interpolation.{Taking, taken_by, takings, truth_of, one_suffices, mean_by, x_of, y_of, z_of, combined, interpolated}
-use Rattle.gn_interp.specs.Gathered.{AreGathered, ValuesAreGathered, IsAdapted, number_at, truth_at, mean_over, truth_over, integer_over, fixed_over, vector_over, components}
+use Rattle.gn_plain.specs.Interpolation.{Taking, taken_by, truth_of, mean_by, x_of, y_of, z_of, combined}
+use Rattle.gn_interp.specs.Numbers.{number_at, components}
+use Rattle.gn_interp.specs.Gathered.{AreGathered, ValuesAreGathered, truth_at, mean_over, truth_over, integer_over, fixed_over, vector_over}
 
-total_mapped : (f : Value → ℤ) (value : ℕ → Value) (g : ℕ → ℤ) (js : List ℕ) (a : ℤ) → ((j : ℕ) → f (value j) ≡ g j) → fold (λ sum x. sum +ℤ f x) a (map value js) ≡ fold (λ sum j. sum +ℤ g j) a js
+pub total_mapped : (f : Value → ℤ) (value : ℕ → Value) (g : ℕ → ℤ) (js : List ℕ) (a : ℤ) → ((j : ℕ) → f (value j) ≡ g j) → fold (λ sum x. sum +ℤ f x) a (map value js) ≡ fold (λ sum j. sum +ℤ g j) a js
 total_mapped f value g [] a same = refl
 total_mapped f value g (j ∷ js) a same = ap (λ z. fold (λ sum x. sum +ℤ f x) (a +ℤ z) (map value js)) (same j) ∙ total_mapped f value g js (a +ℤ g j) same
 
@@ -28,25 +28,25 @@ truths_mapped : (xs : List Bool) (js : List ℕ) → map (truth_at xs) js ≡ ma
 truths_mapped xs [] = refl
 truths_mapped xs (j ∷ js) = ap (λ l. truth_at xs j ∷ l) (truths_mapped xs js)
 
-raw_at : (xs : List Fx) (j : ℕ) → (get_or xs j (fx (pos 0))).0 ≡ number_at (map raw xs) j
+pub raw_at : (xs : List Fx) (j : ℕ) → (get_or xs j (fx (pos 0))).0 ≡ number_at (map raw xs) j
 raw_at [] zero = refl
 raw_at [] (suc j) = refl
 raw_at (x ∷ xs) zero = refl
 raw_at (x ∷ xs) (suc j) = raw_at xs j
 
-x_at : (xs : List V3) (j : ℕ) → (get_or xs j (v3 (pos 0) (pos 0) (pos 0))).x.0 ≡ number_at (components X xs) j
+pub x_at : (xs : List V3) (j : ℕ) → (get_or xs j (v3 (pos 0) (pos 0) (pos 0))).x.0 ≡ number_at (components X xs) j
 x_at [] zero = refl
 x_at [] (suc j) = refl
 x_at (x ∷ xs) zero = refl
 x_at (x ∷ xs) (suc j) = x_at xs j
 
-y_at : (xs : List V3) (j : ℕ) → (get_or xs j (v3 (pos 0) (pos 0) (pos 0))).y.0 ≡ number_at (components Y xs) j
+pub y_at : (xs : List V3) (j : ℕ) → (get_or xs j (v3 (pos 0) (pos 0) (pos 0))).y.0 ≡ number_at (components Y xs) j
 y_at [] zero = refl
 y_at [] (suc j) = refl
 y_at (x ∷ xs) zero = refl
 y_at (x ∷ xs) (suc j) = y_at xs j
 
-z_at : (xs : List V3) (j : ℕ) → (get_or xs j (v3 (pos 0) (pos 0) (pos 0))).z.0 ≡ number_at (components Z xs) j
+pub z_at : (xs : List V3) (j : ℕ) → (get_or xs j (v3 (pos 0) (pos 0) (pos 0))).z.0 ≡ number_at (components Z xs) j
 z_at [] zero = refl
 z_at [] (suc j) = refl
 z_at (x ∷ xs) zero = refl
@@ -74,7 +74,7 @@ module _ (one : Bool) (ts : List Taking) (i : ℕ) where
       let z = mean_mapped z_of value (components Z xs) js (z_at xs) in
       ap v.Vector (gathered i (v3 (pos 0) (pos 0) (pos 0)) below ∙ (λ k. v3 (sat (x k)) (sat (y k)) (sat (z k))))
 
-  gathered_value : (before after : Values) → ValuesAreGathered one ts before after → i < count_of_values after → value_of after i ≡ combined (kind_of_values before) one (map (value_of before) js)
+  pub gathered_value : (before after : Values) → ValuesAreGathered one ts before after → i < count_of_values after → value_of after i ≡ combined (kind_of_values before) one (map (value_of before) js)
   gathered_value (truths xs) (truths ys) g below = gathered_truth xs ys g below
   gathered_value (ints xs) (ints ys) g below = gathered_int xs ys g below
   gathered_value (fixed_numbers xs) (fixed_numbers ys) g below = gathered_fixed xs ys g below
@@ -92,7 +92,7 @@ module _ (one : Bool) (ts : List Taking) (i : ℕ) where
   gathered_value (vectors xs) (ints ys) g below = absurd g
   gathered_value (vectors xs) (fixed_numbers ys) g below = absurd g
 
-gathered_kind : (one : Bool) (ts : List Taking) (before after : Values) → ValuesAreGathered one ts before after → kind_of_values after ≡ kind_of_values before
+pub gathered_kind : (one : Bool) (ts : List Taking) (before after : Values) → ValuesAreGathered one ts before after → kind_of_values after ≡ kind_of_values before
 gathered_kind one ts (truths xs) (truths ys) g = refl
 gathered_kind one ts (ints xs) (ints ys) g = refl
 gathered_kind one ts (fixed_numbers xs) (fixed_numbers ys) g = refl
@@ -110,23 +110,5 @@ gathered_kind one ts (vectors xs) (truths ys) g = absurd g
 gathered_kind one ts (vectors xs) (ints ys) g = absurd g
 gathered_kind one ts (vectors xs) (fixed_numbers ys) g = absurd g
 
-pub is_adapted : (s : Shape) (from to : Place) (count : ℕ) (before after : Values) → same_place from to ≡ false → count_of_values after ≡ count → ValuesAreGathered (one_suffices from to) (takings from to s) before after
-    → IsAdapted s from to count before after
-is_adapted s from to count before after differ many gathered =
-    record {
-      kind = gathered_kind (one_suffices from to) (takings from to s) before after gathered;
-      many = many;
-      values = λ i below. rw differ (gathered_value (one_suffices from to) (takings from to s) i before after gathered (rw many below));
-    }
-
-places_same : (a b : Place) → same_place a b ≡ true → a ≡ b
+pub places_same : (a b : Place) → same_place a b ≡ true → a ≡ b
 places_same a b h = same_true the_type (search rules) a b h
-
--- a place to itself
-pub is_same : (s : Shape) (from to : Place) (many : Place → ℕ) (before after : Values) → same_place from to ≡ true → after ≡ before → count_of_values before ≡ many from → IsAdapted s from to (many to) before after
-is_same s from to many before after same equal counts =
-    record {
-      kind = ap kind_of_values equal;
-      many = ap count_of_values equal ∙ (counts ∙ ap many (places_same from to same));
-      values = λ i below. rw same (ap (λ vs. value_of vs i) equal);
-    }

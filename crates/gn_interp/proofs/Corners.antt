@@ -102,7 +102,7 @@ pub range_is : (vs ks : List ℕ) (a b : ℕ) → slice_range (corners_of vs ks)
 range_is vs ks a b =
     ap (take (b - a)) (drop-map corner_of a (zip vs ks)) ∙ (take-map corner_of (b - a) (drop a (zip vs ks)) ∙ ap (map corner_of) (ap (take (b - a)) (zip_drop a vs ks) ∙ zip_take (b - a) (drop a vs) (drop a ks)))
 
-range_length : {X : Type 0} (xs : List X) (a b : ℕ) → a ≤ b → b ≤ length xs → length (slice_range xs a b) ≡ b - a
+pub range_length : {X : Type 0} (xs : List X) (a b : ℕ) → a ≤ b → b ≤ length xs → length (slice_range xs a b) ≡ b - a
 range_length xs a b ordered within = let n : length (drop a xs) ≡ length xs - a = length-drop a xs in length-take-le (b - a) (drop a xs) (omega (arith, n))
 
 -- the next offset

@@ -1,13 +1,15 @@
 -- One more value that is taken.
-use Rattle.std.proofs.Common.{◌≡◌, ◌≢◌, ℕ, zero, suc, ◌+◌, ◌<◌, ◌≤◌, Bool, true, false, cond, List, [], ◌∷◌, ◌++◌, length, map, filter, set, get_or, take, take_all, Option, Some, None, nat_eq, unwrap_or, ◌*◌, ◌^◌, ◌&&◌, ◌||◌, ℤ, pos, ◌+ℤ◌, unsigned_abs, length-append, ap₂, refl, sym, ap, ◌∙◌, subst, eqb-true, eq-eqb, ne_eqb, append-nil, true≢false, arith}
+use Rattle.std.proofs.Common.{◌≡◌, ◌≢◌, ℕ, zero, suc, ◌+◌, ◌<◌, ◌≤◌, Bool, true, false, cond, List, [], ◌∷◌, ◌++◌, length, map, filter, set, get_or, take, take_all, Option, Some, None, Result, Ok, Err, nat_eq, unwrap_or, ◌*◌, ◌^◌, ◌&&◌, ◌||◌, ℤ, pos, ◌+ℤ◌, unsigned_abs, length-append, ap₂, refl, sym, ap, ◌∙◌, subst, eqb-true, eq-eqb, ne_eqb, append-nil, true≢false, arith}
 use Rattle.std.proofs.lemmas.List.{map-append, length-map, get_or-map}
 use Rattle.std.proofs.lemmas.List.Sums.{fold-append}
 use Rattle.std.proofs.lemmas.List.Folds.{list_any-append, list_all-append}
 use Rattle.std.specs.List.{list_any, list_all}
+use Rattle.std.specs.Result.{IfOk}
 use Rattle.gn_value.specs.Arithmetic.{total_by}
 use Rattle.std.proofs.lemmas.List.Elements.{filter-append}
 use Rattle.gn_plain.specs.Interpolation.{Taking, taken_by, truth_of}
-use Rattle.gn_interp.specs.Gathered.{AreGathered, number_at, total_of, truth_at, some_truth, some_truth_over, joined_truth}
+use Rattle.gn_interp.specs.Numbers.{number_at}
+use Rattle.gn_interp.specs.Gathered.{AreGathered, total_of, truth_at, some_truth, some_truth_over, joined_truth}
 use Rattle.gn_interp.specs.declared.gather.Total.{Total}
 
 -- what an element takes with one pair more
@@ -63,6 +65,11 @@ module _ {A : Type 0} (give : List ℕ → A) (ts : List Taking) (t : Taking) (x
       let differ : nat_eq t.0 i ≡ false = ne_eqb t.0 i (λ e. absurd (omega (arith, past, below, e))) in
       let taken : taken_by i (ts ++ t ∷ []) ≡ taken_by i ts = taken_more i ts t ∙ (ap (λ b. taken_by i ts ++ cond b (t.1 ∷ []) []) differ ∙ append-nil (taken_by i ts)) in
       gathered i d below ∙ ap give (sym taken)
+
+-- a result that is right in one way where it is in another
+pub if_ok : {A E : Type 0} (P Q : A → Type 0) (r : Result A E) → IfOk r P → ((a : A) → P a → Q a) → IfOk r Q
+if_ok P Q (Ok a) p all = all a p
+if_ok P Q (Err e) p all = tt
 
 -- each of a list hangs in one way on what it takes
 pub gathered_mapped : {A B : Type 0} (f : A → B) (give : List ℕ → A) (ts : List Taking) (xs : List A) → AreGathered give ts xs → AreGathered (λ js. f (give js)) ts (map f xs)

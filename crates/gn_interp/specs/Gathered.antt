@@ -4,6 +4,7 @@ use Rattle.gn_value.specs.Arithmetic.{mean_of, sat, sat_int, total_by}
 use Rattle.gn_value.specs.Values.{fx, raw}
 use Rattle.gn_value.specs.declared.fixed.Fx.{Fx}
 use Rattle.gn_value.specs.declared.vector.V3.{V3}
+use Rattle.gn_value.specs.declared.value.Value.{Value}
 use Rattle.gn_value.specs.declared.op.Axis.{Axis}
 use Rattle.gn_value.specs.declared.op.Axis.TheVariants.{X, Y, Z}
 use Rattle.gn_value.specs.declared.value.Place.{Place}
@@ -12,6 +13,7 @@ use Rattle.gn_plain.specs.Topology.{Topology}
 use Rattle.gn_plain.specs.Columns.{Values, truths, ints, fixed_numbers, vectors, kind_of_values, count_of_values, value_of}
 use Rattle.gn_plain.specs.Geometry.{Shape}
 use Rattle.gn_plain.specs.Interpolation.{Taking, taken_by, truth_of, interpolated}
+use Rattle.gn_interp.specs.Numbers.{components, fixed_number, number_at}
 use Rattle.gn_interp.specs.declared.gather.Total.{Total}
 
 -- how many elements a place has
@@ -22,10 +24,7 @@ count_on t Face = length t.faces - 1
 count_on t Corner = length t.corner_points
 count_on t _ = 0
 
--- the value of an element; past the end it is zero
-abbrev pub number_at : List ℤ → ℕ → ℤ
-number_at values i = slice_index_or values i (pos 0)
-
+-- the truth of an element; past the end it is false
 abbrev pub truth_at : List Bool → ℕ → Bool
 truth_at values i = slice_index_or values i false
 
@@ -55,15 +54,7 @@ abbrev pub integer_over : List ℤ → List ℕ → ℤ
 integer_over values sources = sat_int (mean_over values sources)
 
 abbrev pub fixed_over : List ℤ → List ℕ → Fx
-fixed_over values sources = fx (sat (mean_over values sources))
-
-abbrev pub component_of : Axis → V3 → ℤ
-component_of X v = v.x.0
-component_of Y v = v.y.0
-component_of Z v = v.z.0
-
-abbrev pub components : Axis → List V3 → List ℤ
-components axis values = map (component_of axis) values
+fixed_over values sources = fixed_number (mean_over values sources)
 
 -- the mean by component
 abbrev pub vector_over : List V3 → List ℕ → V3
@@ -83,8 +74,12 @@ ValuesAreGathered one takings (fixed_numbers xs) (fixed_numbers ys) = AreGathere
 ValuesAreGathered one takings (vectors xs) (vectors ys) = AreGathered (vector_over xs) takings ys
 ValuesAreGathered one takings _ _ = ⊥
 
--- values on a place are those of another place, interpolated
+-- values by number are those of a list up to its end, and anything past it
+abbrev pub Extends : Values → (ℕ → Value) → Type 0
+Extends values value = (j : ℕ) → j < count_of_values values → value j ≡ value_of values j
+
+-- values on a place are those of another place, interpolated, and nothing past the end of these is read
 pub record IsAdapted (s : Shape) (from to : Place) (count : ℕ) (before after : Values) : Type 0 where
   pub kind : kind_of_values after ≡ kind_of_values before
   pub many : count_of_values after ≡ count
-  pub values : (i : ℕ) → i < count → value_of after i ≡ interpolated s (kind_of_values before) from to (value_of before) i
+  pub values : (value : ℕ → Value) → Extends before value → (i : ℕ) → i < count → value_of after i ≡ interpolated s (kind_of_values before) from to value i

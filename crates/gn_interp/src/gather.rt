@@ -1,6 +1,7 @@
 //! Values of the elements of one place, gathered by those of another.
 ghost use Rattle.std.specs.Prelude.{◌≡◌, ◌+◌, ◌*◌, ◌<◌, ◌≤◌, ◌^◌, ◌+ℤ◌, length, unsigned_abs, IfOk};
-ghost use Rattle.gn_interp.specs.Gathered.{AreGathered, joined_truth, mean_over, number_at, some_truth_over, total_of, truth_at, truth_over};
+ghost use Rattle.gn_interp.specs.Gathered.{AreGathered, joined_truth, mean_over, some_truth_over, total_of, truth_at, truth_over};
+ghost use Rattle.gn_interp.specs.Numbers.{number_at};
 
 use gn_memory::Memory;
 use gn_value::whole::mean;

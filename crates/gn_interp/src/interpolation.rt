@@ -8,7 +8,7 @@ ghost use Rattle.gn_interp.specs.Takings.{topology_of, unplaced};
 ghost use Rattle.gn_interp.specs.Gathered.{count_on, IsAdapted, ValuesAreGathered};
 
 use crate::gather::truths;
-use crate::numbers::{fixed_means, integer_means, vector_means};
+use crate::means::{fixed_means, integer_means, vector_means};
 use crate::takings::takings;
 use gn_attr::Column;
 use gn_attr::array::array_of;

@@ -1,9 +1,10 @@
-//! Means of values of each kind.
-ghost use Rattle.std.specs.Prelude.{◌≡◌, ◌<◌, ◌^◌, length, map, IfOk};
+//! Lists of values as lists of numbers, and back.
+ghost use Rattle.std.specs.Prelude.{◌≡◌, ℕ, ◌<◌, length, map, slice_index_or, IfOk};
+ghost use Rattle.gn_value.specs.Arithmetic.{sat_int};
 ghost use Rattle.gn_value.specs.Values.{raw};
-ghost use Rattle.gn_interp.specs.Gathered.{AreGathered, component_of, components, fixed_over, integer_over, vector_over};
+ghost use Rattle.gn_value.specs.declared.vector.V3.{V3};
+ghost use Rattle.gn_interp.specs.Numbers.{component_of, components, fixed_number, vector_at};
 
-use crate::gather::means;
 use gn_memory::Memory;
 use gn_value::op::Axis;
 use gn_value::whole::{saturate_i32, saturate_i64};
@@ -11,7 +12,7 @@ use gn_value::{Fx, V3};
 use std::alloc::Global;
 
 /// Integers as numbers of 64 bits.
-fn wide(alloc: Global, values: &[i32]) -> Result<Vec<i64>, Memory>
+pub fn wide(alloc: Global, values: &[i32]) -> Result<Vec<i64>, Memory>
     ensures { IfOk result (λ wide. wide.items ≡ values.now) }
 {
     let mut wide = Vec::with_capacity(alloc, values.len())?;
@@ -22,7 +23,7 @@ fn wide(alloc: Global, values: &[i32]) -> Result<Vec<i64>, Memory>
 }
 
 /// The raw numbers.
-fn raw(alloc: Global, values: &[Fx]) -> Result<Vec<i64>, Memory>
+pub fn raw(alloc: Global, values: &[Fx]) -> Result<Vec<i64>, Memory>
     ensures { IfOk result (λ raws. raws.items ≡ map raw values.now) }
 {
     let mut raws = Vec::with_capacity(alloc, values.len())?;
@@ -44,7 +45,7 @@ fn component(vector: V3, axis: Axis) -> i64
 }
 
 /// The raw numbers of one component of each vector.
-fn components(alloc: Global, values: &[V3], axis: Axis) -> Result<Vec<i64>, Memory>
+pub fn components(alloc: Global, values: &[V3], axis: Axis) -> Result<Vec<i64>, Memory>
     ensures { IfOk result (λ raws. raws.items ≡ components axis values.now) }
 {
     let mut raws = Vec::with_capacity(alloc, values.len())?;
@@ -54,89 +55,39 @@ fn components(alloc: Global, values: &[V3], axis: Axis) -> Result<Vec<i64>, Memo
     Ok(raws)
 }
 
-/// The means of integers.
-pub(crate) fn integer_means(
-    alloc: Global,
-    count: usize,
-    takings: &[(u32, u32)],
-    values: &[i32],
-) -> Result<Vec<i32>, Memory>
-    requires few { length takings.now < 2 ^ 63 }
-    ensures count { IfOk result (λ means. length means.items ≡ count) }
-    ensures means { IfOk result (λ means. AreGathered (integer_over values.now) takings.now means.items) }
+/// Numbers as integers: the nearest to each.
+pub fn integers(alloc: Global, numbers: &[i128]) -> Result<Vec<i32>, Memory>
+    ensures { IfOk result (λ integers. integers.items ≡ map sat_int numbers.now) }
 {
-    let means = means(alloc, count, takings, &wide(alloc, values)?)?;
-    let mut integers = Vec::with_capacity(alloc, means.len())?;
-    for mean in &means {
-        integers.push(saturate_i32(*mean))?;
+    let mut integers = Vec::with_capacity(alloc, numbers.len())?;
+    for number in numbers {
+        integers.push(saturate_i32(*number))?;
     }
     Ok(integers)
 }
 
-/// The means of raw numbers, as fixed numbers.
-fn means_of_raw(
-    alloc: Global,
-    count: usize,
-    takings: &[(u32, u32)],
-    values: &[i64],
-) -> Result<Vec<Fx>, Memory>
-    requires few { length takings.now < 2 ^ 63 }
-    ensures count { IfOk result (λ means. length means.items ≡ count) }
-    ensures means { IfOk result (λ means. AreGathered (fixed_over values.now) takings.now means.items) }
+/// Raw numbers as fixed numbers: the nearest to each.
+pub fn fixed_numbers(alloc: Global, raws: &[i128]) -> Result<Vec<Fx>, Memory>
+    ensures { IfOk result (λ fixed. fixed.items ≡ map fixed_number raws.now) }
 {
-    let means = means(alloc, count, takings, values)?;
-    let mut numbers = Vec::with_capacity(alloc, means.len())?;
-    for mean in &means {
-        numbers.push(Fx(saturate_i64(*mean)))?;
+    let mut fixed = Vec::with_capacity(alloc, raws.len())?;
+    for raw in raws {
+        fixed.push(Fx(saturate_i64(*raw)))?;
     }
-    Ok(numbers)
+    Ok(fixed)
 }
 
-/// The means of fixed numbers.
-pub(crate) fn fixed_means(
-    alloc: Global,
-    count: usize,
-    takings: &[(u32, u32)],
-    values: &[Fx],
-) -> Result<Vec<Fx>, Memory>
-    requires few { length takings.now < 2 ^ 63 }
-    ensures count { IfOk result (λ means. length means.items ≡ count) }
-    ensures means { IfOk result (λ means. AreGathered (fixed_over (map raw values.now)) takings.now means.items) }
+/// Vectors of these components.
+///
+/// Condition: the lists are of one length.
+pub fn vectors(alloc: Global, x: &[Fx], y: &[Fx], z: &[Fx]) -> Result<Vec<V3>, Memory>
+    requires y { length y.now ≡ length x.now }
+    requires z { length z.now ≡ length x.now }
+    ensures len { IfOk result (λ vectors. length vectors.items ≡ length x.now) }
+    ensures vectors { IfOk result (λ vectors. (i : ℕ) (d : V3) → i < length x.now → slice_index_or vectors.items i d ≡ vector_at x.now y.now z.now i) }
 {
-    means_of_raw(alloc, count, takings, &raw(alloc, values)?)
-}
-
-/// The means of one component.
-fn means_along(
-    alloc: Global,
-    count: usize,
-    takings: &[(u32, u32)],
-    values: &[V3],
-    axis: Axis,
-) -> Result<Vec<Fx>, Memory>
-    requires few { length takings.now < 2 ^ 63 }
-    ensures count { IfOk result (λ means. length means.items ≡ count) }
-    ensures means { IfOk result (λ means. AreGathered (fixed_over (components axis values.now)) takings.now means.items) }
-{
-    means_of_raw(alloc, count, takings, &components(alloc, values, axis)?)
-}
-
-/// The means of vectors, by component.
-pub(crate) fn vector_means(
-    alloc: Global,
-    count: usize,
-    takings: &[(u32, u32)],
-    values: &[V3],
-) -> Result<Vec<V3>, Memory>
-    requires few { length takings.now < 2 ^ 63 }
-    ensures count { IfOk result (λ means. length means.items ≡ count) }
-    ensures means { IfOk result (λ means. AreGathered (vector_over values.now) takings.now means.items) }
-{
-    let x = means_along(alloc, count, takings, values, Axis::X)?;
-    let y = means_along(alloc, count, takings, values, Axis::Y)?;
-    let z = means_along(alloc, count, takings, values, Axis::Z)?;
-    let mut vectors = Vec::with_capacity(alloc, count)?;
-    for at in 0..count {
+    let mut vectors = Vec::with_capacity(alloc, x.len())?;
+    for at in 0..x.len() {
         vectors.push(V3 {
             x: x[at],
             y: y[at],

@@ -5,7 +5,7 @@ use Rattle.gn_plain.specs.Interpolation.{one_suffices}
 use Rattle.gn_attr.specs.Columns.{values_of}
 use Rattle.gn_interp.specs.Takings.{topology_of, unplaced}
 use Rattle.gn_interp.specs.Gathered.{count_on, ValuesAreGathered}
-use Rattle.gn_interp.proofs.ByKind.{is_adapted}
+use Rattle.gn_interp.proofs.Within.{is_adapted}
 use Rattle.gn_interp.proofs.interpolation.adapt.Goals as goal
 
 if_ok : {A E : Type 0} (P Q R : A → Type 0) (r : Result A E) → IfOk r P → IfOk r Q → ((a : A) → P a → Q a → R a) → IfOk r R
@@ -21,5 +21,5 @@ returns-clause-values c =
     let differ : same_place from to ≡ false = sym c.eq.ensures ∙ c.if-eq.false in
     let pairs = c.deref.ensures.value ∙ c.in_ok-takings.ensures in
     if_ok _ _ _ c.interpolate.result c.interpolate.ensures.count c.interpolate.ensures.values (λ a many gathered.
-    is_adapted (unplaced t) from to (count_on t to) before (values_of a) differ (many ∙ c.count_on-count.ensures)
+    is_adapted t from to before (values_of a) c.requires.valid differ c.requires.count (many ∙ c.count_on-count.ensures)
     (subst (λ ts. ValuesAreGathered (one_suffices from to) ts before (values_of a)) pairs (subst (λ b. ValuesAreGathered b c.deref.result.now before (values_of a)) c.one_suffices.ensures gathered)))

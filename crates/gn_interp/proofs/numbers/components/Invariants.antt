@@ -1,5 +1,5 @@
 use Rattle.std.proofs.Common.{◌≡◌, map, take}
-use Rattle.gn_interp.specs.Gathered.{component_of}
+use Rattle.gn_interp.specs.Numbers.{component_of}
 use Rattle.gn_interp.proofs.numbers.components.Given as goal
 
 abbrev pub invariant-loop-value : goal.invariant-loop-value
