@@ -1,8 +1,8 @@
 -- One node more.
-use Rattle.std.proofs.Common.{◌≡◌, ◌≢◌, ◌⊎◌, inl, inr, ℕ, zero, suc, ◌+◌, ◌<◌, ◌≤◌, Bool, true, false, List, [], ◌∷◌, ◌++◌, map, length, take, get_or, set, Option, Some, None, IsTrue, All, refl, sym, ap, ◌∙◌, subst, arith}
-use Rattle.std.specs.Prelude.{is_some, is_none, nat_lt, slice_get, slice_index_or, option_map}
+use Rattle.std.proofs.Common.{◌≡◌, ◌≢◌, ◌⊎◌, inl, inr, ℕ, zero, suc, ◌+◌, ◌<◌, ◌≤◌, true, false, List, [], ◌∷◌, ◌++◌, map, length, take, set, Option, Some, None, IsTrue, refl, sym, ap, ◌∙◌, subst, arith}
+use Rattle.std.specs.Prelude.{is_none, nat_lt, slice_get, slice_index_or, option_map}
 use Rattle.std.proofs.lemmas.List.{length-map, length-append}
-use Rattle.gn_lazy.specs.Graphs.{Nodes, AreThere, is_there, has_output, IsOrdered}
+use Rattle.gn_lazy.specs.Graphs.{AreThere, is_there, has_output}
 use Rattle.gn_lazy.specs.declared.graph.Origin.{Origin}
 use Rattle.gn_lazy.specs.declared.graph.Origin.TheVariants.{Input, Constant, Out}
 use Rattle.gn_lazy.specs.declared.graph.Link.{Link as GraphLink}

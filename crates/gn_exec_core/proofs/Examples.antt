@@ -1,11 +1,10 @@
 -- Rows of the definitions, worked by hand.
-use Rattle.std.proofs.Common.{◌≡◌, ℕ, [], ◌∷◌, true, false, refl}
+use Rattle.std.proofs.Common.{◌≡◌, [], ◌∷◌, true, false, refl}
 use Rattle.std.specs.Prelude.{codes}
 use Rattle.gn_exec_laws.specs.Machine.{Take, Refuse}
 use Rattle.gn_exec_core.specs.declared.values.WarningText.TheVariants as text
 use Rattle.gn_exec_core.specs.Values.{text_of}
 use Rattle.gn_exec_core.specs.States.{refuses}
-use Rattle.gn_exec_core.proofs.Refusals as refusals
 
 a_long_file_is_named : text_of text.TooLong ≡ codes "too long"
 a_long_file_is_named = refl

@@ -1,9 +1,9 @@
 -- A take, by what the state keeps.
-use Rattle.std.proofs.Common.{◌≡◌, ◌≢◌, ◌⊎◌, inl, inr, ℕ, zero, suc, ◌+◌, ◌≤◌, Bool, true, false, List, [], ◌∷◌, ◌++◌, map, length, Option, Some, None, refl, sym, ap, ◌∙◌, subst, arith}
+use Rattle.std.proofs.Common.{◌≡◌, ◌≢◌, ℕ, ◌+◌, ◌≤◌, Bool, false, List, [], ◌∷◌, ◌++◌, map, length, Option, Some, None, refl, sym, ap, ◌∙◌, subst, arith}
 use Rattle.std.specs.Prelude.{slice_get, slice_index_or, option_map}
 use Rattle.gn_lazy.specs.Graphs.{Nodes}
 use Rattle.gn_lazy.specs.declared.graph.GraphNode.{GraphNode}
-use Rattle.gn_node_set.specs.Meanings.{Has, Node, selected, Meanings}
+use Rattle.gn_node_set.specs.Meanings.{Node, selected, Meanings}
 use Rattle.gn_node_set.proofs.Lists.{some_same, not_both}
 use Rattle.gn_exec_laws.specs.Machine.{Event, Take, Ready, Allowed}
 use Rattle.gn_uses.specs.declared.nodes.Choice.{Choice}
@@ -19,7 +19,7 @@ use Rattle.gn_exec_core.specs.Holds.{present}
 use Rattle.gn_exec_core.specs.Jobs.{IsJob, Holds}
 use Rattle.gn_exec_core.specs.Values.{answer_of}
 use Rattle.gn_exec_core.proofs.Using.{at_node}
-use Rattle.gn_exec_core.proofs.Refusals.{events_push, events_counted}
+use Rattle.gn_exec_core.proofs.Refusals.{events_counted}
 use Rattle.gn_exec_core.proofs.Taking.{seen_take, flags_taken, none_ready, ready, allowed, inputs_read, answer_read, reached_after, holds_after}
 
 -- one take more

@@ -7,4 +7,7 @@ pub mod Starting
 pub mod Adding
 pub mod Beginning
 pub mod Handing
+pub mod Serving
+pub mod Tallying
+pub mod Waiting
 mod Examples

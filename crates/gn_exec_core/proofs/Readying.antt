@@ -1,21 +1,20 @@
 -- The numbers find just the nodes ready that a worker may take, and such a node's values are what its links carry.
-use Rattle.std.proofs.Common.{◌≡◌, ◌≢◌, ◌⊎◌, inl, inr, ℕ, zero, suc, Bool, true, false, ◌&&◌, List, [], ◌∷◌, map, Option, Some, None, IsTrue, refl, sym, ap, ◌∙◌, subst}
-use Rattle.std.specs.Prelude.{is_some, slice_get, slice_index_or, option_map, if◌then◌else◌}
+use Rattle.std.proofs.Common.{◌≡◌, ◌≢◌, inl, inr, ℕ, Bool, true, false, ◌&&◌, List, [], ◌∷◌, map, Option, Some, None, refl, sym, ap, ◌∙◌, subst}
+use Rattle.std.specs.Prelude.{slice_get, option_map, if◌then◌else◌}
 use Rattle.gn_lazy.specs.Graphs.{Nodes, IsOrdered}
 use Rattle.gn_lazy.specs.declared.graph.Link.{Link as GraphLink}
 use Rattle.gn_lazy.specs.declared.graph.GraphNode.{GraphNode}
 use Rattle.gn_node_set.specs.Meanings.{Has, Link, Node, Role, Plain, Switch, File, Zone, Choice, selected, Answer, AllDiffer, Meanings}
-use Rattle.gn_node_set.proofs.Lists.{held, is_held, member_at}
-use Rattle.gn_exec_laws.specs.Graphs.{Task, choice_of, links_read}
+use Rattle.gn_node_set.proofs.Lists.{held, is_held}
+use Rattle.gn_exec_laws.specs.Graphs.{choice_of, links_read}
 use Rattle.gn_exec_laws.specs.Fits.{paths_of}
-use Rattle.gn_exec_laws.specs.Machine.{Event, Take, World, world, is_set, reads, condition_set, sure_as, sure, Ready}
+use Rattle.gn_exec_laws.specs.Machine.{Event, World, world, is_set, reads, condition_set, sure_as, sure, Ready}
 use Rattle.gn_uses.specs.declared.nodes.Role.{Role as NumberRole}
 use Rattle.gn_uses.specs.declared.nodes.Role.TheVariants as role
-use Rattle.gn_uses.specs.declared.nodes.Choice.{Choice as NumberChoice}
 use Rattle.gn_uses.specs.Nodes as numbers
 use Rattle.gn_uses.specs.Nodes.{all_set, is_set_up}
 use Rattle.gn_uses.specs.Uses as uses
-use Rattle.gn_exec_core.specs.Holds.{present, choice_as, chosen_as, value_now, IsNumbered, AreNumbered, HaveConditions, AreTaken}
+use Rattle.gn_exec_core.specs.Holds.{present, choice_as, chosen_as, value_now, AreNumbered, HaveConditions, AreTaken}
 use Rattle.gn_exec_core.proofs.Using.{selected_map, at_node, link, task, sure_is, in_world, from_world, used_same, same_used}
 
 each_set : {A : Type 0} (f : A → Bool) (xs : List A) → all_set (map f xs) ≡ true → (x : A) → Has xs x → f x ≡ true

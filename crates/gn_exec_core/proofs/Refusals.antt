@@ -1,5 +1,5 @@
 -- Workers that refuse.
-use Rattle.std.proofs.Common.{◌≡◌, ◌≢◌, ◌⊎◌, inl, inr, ℕ, zero, suc, ◌+◌, ◌<◌, ◌≤◌, Bool, true, false, ◌||◌, ◌==◌, List, [], ◌∷◌, ◌++◌, length, get_or, set, map, reverse, IsTrue, refl, sym, ap, ◌∙◌, subst, true≢false, arith, if◌then◌else◌}
+use Rattle.std.proofs.Common.{◌≡◌, ◌≢◌, ◌⊎◌, inl, inr, ℕ, zero, suc, ◌+◌, ◌<◌, Bool, true, false, ◌||◌, ◌==◌, List, [], ◌∷◌, ◌++◌, length, get_or, set, map, reverse, IsTrue, refl, sym, ap, ◌∙◌, subst, true≢false, arith, if◌then◌else◌}
 use Rattle.std.specs.List.{list_any}
 use Rattle.std.proofs.lemmas.List.{get_or-set_same, get_or-set_other, length-set, length-reverse, length-map, reverse-append, map_push}
 use Rattle.std.proofs.lemmas.List.Sums.{sum_by-set}
@@ -9,7 +9,7 @@ use Rattle.gn_node_set.specs.Meanings.{Has, Meanings}
 use Rattle.gn_exec_laws.specs.Machine.{Event, Take, Finish, Serve, Refuse, IsRun}
 use Rattle.gn_exec_core.specs.declared.state.Happened.{Happened}
 use Rattle.gn_exec_core.specs.declared.state.Happened.TheVariants as happened
-use Rattle.gn_exec_core.specs.States.{State, event_of, events_of, outputs_in, handed_of, refuses, any_refuses, seen, refused_by, unset, HasFlags, job, IsReached}
+use Rattle.gn_exec_core.specs.States.{event_of, events_of, outputs_in, handed_of, refuses, any_refuses, seen, refused_by, unset, HasFlags, job, IsReached}
 
 -- ---- the journal
 

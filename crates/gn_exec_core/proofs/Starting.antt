@@ -1,16 +1,16 @@
 -- What a state begins with is what holds in the first world.
-use Rattle.std.proofs.Common.{◌≡◌, ◌≢◌, ◌⊎◌, inl, inr, ℕ, zero, suc, ◌+◌, ◌<◌, Bool, true, false, List, [], ◌∷◌, ◌++◌, map, length, take, Option, Some, None, IsTrue, All, refl, sym, ap, ◌∙◌, subst, arith}
+use Rattle.std.proofs.Common.{◌≡◌, ◌≢◌, ℕ, zero, suc, ◌+◌, ◌<◌, Bool, true, false, List, [], ◌∷◌, map, length, take, Option, Some, None, IsTrue, All, refl, sym, ap, ◌∙◌, subst, arith}
 use Rattle.std.specs.Prelude.{is_some, is_none, IsSome, nat_lt, slice_get, slice_index_or, option_map, if◌then◌else◌}
 use Rattle.gn_lazy.specs.Graphs.{Nodes, is_there, has_output, IsOrdered}
 use Rattle.gn_lazy.specs.declared.graph.Origin.{Origin}
 use Rattle.gn_lazy.specs.declared.graph.Origin.TheVariants.{Input, Constant, Out}
 use Rattle.gn_lazy.specs.declared.graph.Link.{Link as GraphLink}
 use Rattle.gn_lazy.specs.declared.graph.GraphNode.{GraphNode}
-use Rattle.gn_node_set.specs.Meanings.{Has, Source, a_value, an_output, Link, Node, Role, Plain, Switch, File, Zone, Choice, converted, Meanings}
+use Rattle.gn_node_set.specs.Meanings.{Has, Link, Node, Role, Plain, Switch, File, Zone, Meanings}
 use Rattle.gn_node_set.proofs.Lists.{some_same, has_image, member_at, index_at, index_image, at_image, map_map, map_equal}
-use Rattle.gn_exec_laws.specs.Graphs.{Task, condition, choice_of}
-use Rattle.gn_exec_laws.specs.Tasks.{output_of, source_of, node_of, task_of}
-use Rattle.gn_exec_laws.specs.Fits.{shifted, SourceSort, LinkSort, KindFits, NodeFits, CanStart, IsLawful}
+use Rattle.gn_exec_laws.specs.Graphs.{condition}
+use Rattle.gn_exec_laws.specs.Tasks.{output_of, source_of}
+use Rattle.gn_exec_laws.specs.Fits.{shifted, LinkSort, KindFits, NodeFits, CanStart, IsLawful}
 use Rattle.gn_exec_laws.specs.Machine.{World, first_world, is_set, reads, condition_set}
 use Rattle.gn_exec_laws.proofs.Sorts.{Beside, beside_of, links_beside, each_fits, converted_sort}
 use Rattle.gn_uses.specs.declared.nodes.Role.TheVariants as role
@@ -20,8 +20,7 @@ use Rattle.gn_uses.specs.Uses.{Uses}
 use Rattle.gn_uses.proofs.Reading.{has_index}
 use Rattle.gn_exec_core.specs.Calls.{MayBeFirst}
 use Rattle.gn_exec_core.specs.Holds.{place_of, input_of, present, choice_as, chosen_as, value_now, IsNumbered, AreNumbered, HaveConditions, AreTaken, AreKept}
-use Rattle.gn_exec_core.specs.Jobs.{Holds}
-use Rattle.gn_exec_core.specs.Starts.{begun, first_set, first_value, start_at, start_value, CanCarryAs, CanCarry, IsChosenBy, MayChoose, HasNumbers}
+use Rattle.gn_exec_core.specs.Starts.{first_set, first_value, start_at, start_value, CanCarryAs, CanCarry, IsChosenBy, MayChoose, HasNumbers}
 use Rattle.gn_exec_core.proofs.Using.{all_has, before_there, at_node, link, task}
 
 -- what stands at a place, by an equation of images

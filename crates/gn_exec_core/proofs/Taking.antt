@@ -1,5 +1,5 @@
 -- What a take leaves.
-use Rattle.std.proofs.Common.{◌≡◌, ◌≢◌, ◌⊎◌, inl, inr, ℕ, zero, suc, ◌+◌, ◌<◌, ◌≤◌, Bool, true, false, ◌||◌, ◌==◌, List, [], ◌∷◌, ◌++◌, map, length, reverse, Option, Some, None, refl, sym, ap, ◌∙◌, subst, arith, if◌then◌else◌}
+use Rattle.std.proofs.Common.{◌≡◌, ◌≢◌, inl, inr, ℕ, ◌+◌, ◌≤◌, Bool, true, false, List, [], ◌∷◌, ◌++◌, map, length, reverse, Option, Some, None, refl, sym, ap, ◌∙◌, subst, arith, if◌then◌else◌}
 use Rattle.std.specs.Prelude.{slice_get, slice_index_or, option_map}
 use Rattle.std.proofs.lemmas.List.Sums.{sum_by-cons}
 use Rattle.gn_lazy.specs.Graphs.{Nodes}
@@ -8,7 +8,7 @@ use Rattle.gn_node_set.specs.Meanings.{Has, Node, AllDiffer, selected, Meanings}
 use Rattle.gn_node_set.proofs.Lists.{has_first, has_second, has_either}
 use Rattle.gn_exec_laws.specs.Graphs.{links_read}
 use Rattle.gn_exec_laws.specs.Fits.{paths_of}
-use Rattle.gn_exec_laws.specs.Machine.{Event, Take, Finish, Serve, Refuse, World, HasNumber, reads, Ready, NoRefusals, Allowed}
+use Rattle.gn_exec_laws.specs.Machine.{Event, Take, Finish, Serve, Refuse, reads, Ready, Allowed}
 use Rattle.gn_uses.specs.declared.nodes.Choice.{Choice}
 use Rattle.gn_uses.specs.declared.nodes.Role.{Role}
 use Rattle.gn_uses.specs.Nodes as numbers
@@ -17,10 +17,10 @@ use Rattle.gn_exec_core.specs.declared.values.Answer.{Answer}
 use Rattle.gn_exec_core.specs.declared.state.Happened.{Happened}
 use Rattle.gn_exec_core.specs.declared.state.Happened.TheVariants as happened
 use Rattle.gn_exec_core.specs.Values.{answer_of}
-use Rattle.gn_exec_core.specs.States.{State, events_of, outputs_in, handed_of, seen, any_refuses, unset, HasFlags, job, now, IsReached}
-use Rattle.gn_exec_core.specs.Holds.{present, value_now, AreNumbered, AreTaken}
+use Rattle.gn_exec_core.specs.States.{State, events_of, outputs_in, seen, any_refuses, unset, HasFlags, job, now, IsReached}
+use Rattle.gn_exec_core.specs.Holds.{present, AreNumbered, AreTaken}
 use Rattle.gn_exec_core.specs.Jobs.{Holds}
-use Rattle.gn_exec_core.proofs.Refusals.{events_push, events_counted}
+use Rattle.gn_exec_core.proofs.Refusals.{events_push}
 use Rattle.gn_exec_core.proofs.Using.{at_node}
 use Rattle.gn_exec_core.proofs.Readying.{ready_found, found_ready, values_read}
 

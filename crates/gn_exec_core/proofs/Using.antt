@@ -1,23 +1,23 @@
 -- The numbers mark what is used in the world, and nothing else.
-use Rattle.std.proofs.Common.{◌≡◌, ◌≢◌, ◌⊎◌, inl, inr, ℕ, zero, suc, ◌<◌, Bool, true, false, ◌&&◌, List, [], ◌∷◌, ◌++◌, map, length, take, Option, Some, None, IsTrue, All, refl, sym, ap, ◌∙◌, subst, arith}
-use Rattle.std.specs.Prelude.{is_some, slice_get, slice_index_or, option_map}
-use Rattle.gn_lazy.specs.Graphs.{Nodes, has_output, is_there, AreThere, IsOrdered}
+use Rattle.std.proofs.Common.{◌≡◌, inl, inr, ℕ, zero, suc, ◌<◌, Bool, true, false, List, [], ◌∷◌, map, length, take, Option, Some, None, IsTrue, All, refl, sym, ap, ◌∙◌, subst, arith}
+use Rattle.std.specs.Prelude.{slice_get, slice_index_or}
+use Rattle.gn_lazy.specs.Graphs.{Nodes, has_output, is_there, IsOrdered}
 use Rattle.gn_lazy.specs.declared.graph.Origin.{Origin}
 use Rattle.gn_lazy.specs.declared.graph.Origin.TheVariants.{Input, Constant, Out}
 use Rattle.gn_lazy.specs.declared.graph.Link.{Link as GraphLink}
 use Rattle.gn_lazy.specs.declared.graph.GraphNode.{GraphNode}
 use Rattle.gn_node_set.specs.Paths.{Path}
-use Rattle.gn_node_set.specs.Meanings.{Has, Source, a_value, an_item, an_output, Link, Node, Role, Plain, Switch, File, Zone, Choice, one_case, all_cases, no_case, member, chosen, selected, AllDiffer, Meanings}
+use Rattle.gn_node_set.specs.Meanings.{Has, Source, a_value, an_output, Link, Node, Role, Plain, Switch, File, Zone, Choice, one_case, all_cases, no_case, member, chosen, selected, AllDiffer, Meanings}
 use Rattle.gn_node_set.proofs.Lists.{some_same, not_both, has_image, image_of, member_at, place_of as place_in, index_at, at_image, image_at, one_place}
 use Rattle.gn_exec_laws.proofs.Sorts.{selected_from}
 use Rattle.gn_exec_laws.specs.Graphs.{Task, choice_of}
 use Rattle.gn_exec_laws.specs.Tasks.{output_of, source_of, link_of, node_of, task_of}
 use Rattle.gn_exec_laws.specs.Fits.{paths_of}
-use Rattle.gn_exec_laws.specs.Machine.{World, is_set, reads, condition_set, sure_as, sure, Reached, Used}
+use Rattle.gn_exec_laws.specs.Machine.{World, reads, condition_set, sure_as, sure, Reached, Used}
 use Rattle.gn_uses.specs.declared.outputs.Out.{Out as Place}
 use Rattle.gn_uses.specs.Nodes as numbers
 use Rattle.gn_uses.specs.Nodes.{Wanted}
-use Rattle.gn_exec_core.specs.Holds.{place_of, input_of, present, choice_as, chosen_as, IsNumbered, AreNumbered}
+use Rattle.gn_exec_core.specs.Holds.{place_of, input_of, present, choice_as, AreNumbered}
 
 -- ---- lists
 

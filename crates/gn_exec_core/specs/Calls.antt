@@ -1,5 +1,5 @@
 -- What the calls of a set of nodes promise.
-use Rattle.std.specs.Prelude.{◌≡◌, ℕ, ◌+◌, ◌-◌, ◌<◌, ◌≤◌, List, ◌∷◌, map, length, Bool, true, false, IsTrue, All, Option, slice_get}
+use Rattle.std.specs.Prelude.{◌≡◌, ℕ, ◌+◌, ◌-◌, ◌<◌, ◌≤◌, List, ◌∷◌, map, length, IsTrue, All, slice_get}
 use Rattle.gn_lazy.specs.Graphs.{has_output}
 use Rattle.gn_lazy.specs.declared.graph.Origin.{Origin}
 use Rattle.gn_lazy.specs.declared.graph.Origin.TheVariants.{Input, Constant, Out}

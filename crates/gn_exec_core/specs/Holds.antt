@@ -1,18 +1,17 @@
 -- What the numbers and the kept values say of a world: which nodes are used, and what each input carries.
-use Rattle.std.specs.Prelude.{◌≡◌, ◌≢◌, ◌↔◌, ℕ, suc, Bool, true, false, List, [], ◌∷◌, map, Option, Some, None, option_map, is_some, if◌then◌else◌, slice_get, slice_index_or}
-use Rattle.gn_lazy.specs.Graphs.{Nodes, IsOrdered}
+use Rattle.std.specs.Prelude.{◌≡◌, ◌≢◌, ◌↔◌, ℕ, Bool, true, false, List, [], ◌∷◌, map, Option, Some, None, option_map, is_some, if◌then◌else◌, slice_get, slice_index_or}
+use Rattle.gn_lazy.specs.Graphs.{Nodes}
 use Rattle.gn_lazy.specs.declared.graph.Origin.{Origin}
 use Rattle.gn_lazy.specs.declared.graph.Origin.TheVariants.{Input, Constant, Out}
 use Rattle.gn_lazy.specs.declared.graph.Link.{Link as GraphLink}
 use Rattle.gn_lazy.specs.declared.graph.GraphNode.{GraphNode}
-use Rattle.gn_node_set.specs.Meanings.{Has, Link, Node, Role, Switch, Choice, no_case, Answer, Meanings}
+use Rattle.gn_node_set.specs.Meanings.{Has, Link, Node, Role, Switch, Choice, no_case, Meanings}
 use Rattle.gn_node_set.specs.Paths.{Path}
-use Rattle.gn_exec_laws.specs.Graphs.{Task, choice_of}
-use Rattle.gn_exec_laws.specs.Tasks.{node_of, task_of}
+use Rattle.gn_exec_laws.specs.Graphs.{choice_of}
+use Rattle.gn_exec_laws.specs.Tasks.{node_of}
 use Rattle.gn_exec_laws.specs.Machine.{Event, Take, World, is_set, reads, condition_set}
 use Rattle.gn_uses.specs.declared.outputs.Out.{Out as Place}
 use Rattle.gn_uses.specs.Nodes as numbers
-use Rattle.gn_uses.specs.Uses as uses
 
 -- the output that an origin names
 abbrev pub place_of : Origin → Option Place

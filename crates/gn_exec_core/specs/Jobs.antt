@@ -1,15 +1,14 @@
 -- Jobs, and what `take` leaves.
-use Rattle.std.specs.Prelude.{◌≡◌, ◌⊎◌, ◌≤◌, ℕ, zero, suc, ◌+◌, ◌==◌, Bool, true, false, List, [], ◌∷◌, ◌++◌, map, length, Option, Some, None, option_map, vec_capacity, if◌then◌else◌, slice_get, slice_index_or}
+use Rattle.std.specs.Prelude.{◌≡◌, ◌⊎◌, ◌≤◌, ℕ, zero, suc, ◌==◌, Bool, true, false, List, [], ◌∷◌, ◌++◌, map, Option, Some, None, option_map, vec_capacity, if◌then◌else◌, slice_get, slice_index_or}
 use Rattle.std.specs.declared.alloc.Global.{Global}
 use Rattle.std.specs.declared.vec.Vec.{Vec}
-use Rattle.gn_lazy.specs.Graphs.{Nodes, IsOrdered}
+use Rattle.gn_lazy.specs.Graphs.{IsOrdered}
 use Rattle.gn_lazy.specs.declared.graph.GraphNode.{GraphNode}
 use Rattle.gn_node_set.specs.Meanings.{Has, Node, Meanings}
 use Rattle.gn_exec_laws.specs.Graphs.{links_read}
-use Rattle.gn_exec_laws.specs.Tasks.{node_of}
-use Rattle.gn_exec_laws.specs.Machine.{Take, World, HasNumber, reads, Ready, Allowed}
+use Rattle.gn_exec_laws.specs.Machine.{Take, HasNumber, reads, Ready, Allowed}
 use Rattle.gn_uses.specs.declared.nodes.Role.{Role}
-use Rattle.gn_uses.specs.declared.nodes.Role.TheVariants.{Plain, Switch, File, Zone}
+use Rattle.gn_uses.specs.declared.nodes.Role.TheVariants.{Plain, Switch, File}
 use Rattle.gn_uses.specs.declared.nodes.Choice.{Choice}
 use Rattle.gn_uses.specs.declared.nodes.Choice.TheVariants as choice
 use Rattle.gn_uses.specs.Uses.{Uses}

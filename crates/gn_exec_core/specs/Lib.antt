@@ -4,3 +4,4 @@ pub mod States
 pub mod Holds
 pub mod Jobs
 pub mod Starts
+pub mod Waits

@@ -1,5 +1,5 @@
 -- What a state begins with, of each link and of each node.
-use Rattle.std.specs.Prelude.{◌≡◌, ℕ, suc, ◌<◌, Bool, true, false, List, [], ◌∷◌, ◌++◌, map, length, take, Option, Some, None, IsSome, is_some, is_none, slice_index_or}
+use Rattle.std.specs.Prelude.{◌≡◌, ℕ, suc, ◌<◌, Bool, true, false, List, [], ◌∷◌, ◌++◌, map, length, Option, Some, None, IsSome, is_some, is_none, slice_index_or}
 use Rattle.gn_lazy.specs.Graphs.{Nodes}
 use Rattle.gn_lazy.specs.declared.graph.Origin.{Origin}
 use Rattle.gn_lazy.specs.declared.graph.Origin.TheVariants.{Input, Constant, Out}

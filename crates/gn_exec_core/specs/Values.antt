@@ -1,5 +1,5 @@
 -- What answers, warnings and outputs stand for.
-use Rattle.std.specs.Prelude.{ℕ, List, ◌++◌, map, Option, option_map, codes, decimal}
+use Rattle.std.specs.Prelude.{ℕ, List, ◌++◌, map, codes, decimal}
 use Rattle.gn_node_set.specs.Meanings as meant
 use Rattle.gn_exec_core.specs.declared.values.Answer.{Answer}
 use Rattle.gn_exec_core.specs.declared.values.Answer.TheVariants.{Whole, Absent, TooLong}

@@ -140,6 +140,7 @@ pub(crate) fn row_out<V: Drop>(
 pub(crate) fn answer_out(answers: &mut Vec<Option<Answer>>, node: usize) -> Option<Answer>
     ensures answer { result ≡ slice_index_or answers.old.items node None }
     ensures others { (k : ℕ) → k ≢ node → slice_index_or answers.new.items k None ≡ slice_index_or answers.old.items k None }
+    ensures len { length answers.new.items ≡ length answers.old.items }
 {
     if answers.len() <= node {
         return None;

@@ -3,6 +3,7 @@ ghost use Rattle.gn_lazy.specs.declared.graph.GraphNode.{GraphNode as Node};
 ghost use Rattle.gn_uses.specs.declared.nodes.Role.{Role as NumberRole};
 ghost use Rattle.gn_uses.specs.Nodes.{HasRoom, role_of};
 ghost use Rattle.gn_node_set.specs.Meanings.{Switch};
+ghost use Rattle.gn_exec_laws.specs.Fits.{is_file};
 ghost use Rattle.gn_exec_core.specs.Holds.{input_of, place_of as place, present};
 ghost use Rattle.gn_exec_core.specs.Jobs.{lists_of};
 ghost use Rattle.gn_exec_core.specs.Starts.{start_value, CanCarry, IsChosenBy, MayChoose, HasNumbers, with_chosen, with_roots, AreWhole};
@@ -113,6 +114,31 @@ pub(crate) fn choices_of<N: NodeSet>(
         choices.push(choice_of(nodes, &at.kind, row)?)?;
     }
     Ok(choices)
+}
+
+/// Whether nodes of a role are imports.
+fn is_import(role: Role) -> bool
+    ensures { result ≡ is_file (role_of role) }
+{
+    matches!(role, Role::File)
+}
+
+/// Which nodes are imports.
+pub(crate) fn imports_of<N: NodeSet>(
+    nodes: &N,
+    alloc: Global,
+    graph: &Graph<N::Kind>,
+) -> Result<Vec<bool>, Memory>
+    ensures { IfOk result (λ imports. imports.items ≡ map (λ at. is_file (N.meanings.rows.role (N.kind_of at.kind))) graph.now.nodes) }
+{
+    let mut imports = Vec::with_capacity(alloc, graph.len() as usize)?;
+    for number in 0..graph.len() {
+        let Some(at) = graph.node(number) else {
+            unreachable!();
+        };
+        imports.push(is_import(nodes.role(&at.kind)))?;
+    }
+    Ok(imports)
 }
 
 /// The output that an origin names.

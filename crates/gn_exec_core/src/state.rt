@@ -1,4 +1,4 @@
-ghost use Rattle.std.specs.Prelude.{◌≡◌, ◌<◌, ◌+◌, IfOk, length, map, slice_get};
+ghost use Rattle.std.specs.Prelude.{◌≡◌, ◌<◌, ◌+◌, false, IfOk, OnOk, OnErr, Decides, length, map, option_map, slice_get};
 ghost use Rattle.std.specs.List.{list_any};
 ghost use Rattle.gn_exec_core.specs.States.{refused_by, any_refuses};
 ghost use Rattle.gn_lazy.specs.Graphs.{IsOrdered};
@@ -7,13 +7,16 @@ ghost use Rattle.gn_exec_laws.specs.Tasks.{task_of};
 ghost use Rattle.gn_exec_core.specs.Holds.{HaveConditions};
 ghost use Rattle.gn_exec_core.specs.Jobs.{Takes};
 ghost use Rattle.gn_exec_core.specs.Starts.{begun};
+ghost use Rattle.gn_exec_core.specs.Values.{answer_of};
+ghost use Rattle.gn_exec_core.specs.Waits.{IsBusy, AreFinished, NodeIs, WaitsFirst, MayServe, served_by};
 
 use crate::jobs::{Taken, answer_out, blank, choice_at, inputs_at, read_values, row_out};
 use crate::node_set::NodeSet;
-use crate::start::{choices_of, numbered, rows_of};
+use crate::start::{choices_of, imports_of, numbered, rows_of};
 use crate::values::Answer;
-use gn_lazy::Graph;
+use gn_lazy::{Graph, GraphNode};
 use gn_memory::Memory;
+use gn_pending::{are_flagged, empty_slots, first_flagged};
 use gn_shared::Meter;
 use gn_uses::{Choice, Uses};
 use std::marker::Model;
@@ -63,18 +66,25 @@ pub struct ExecState<N: NodeSet> {
     rows: Vec<Vec<Option<N::Value>>>,
     /// The answer of each import, until the node is taken.
     answers: Vec<Option<Answer>>,
+    /// Which nodes are finished.
+    done: Vec<bool>,
+    /// Which nodes are imports without an answer.
+    unanswered: Vec<bool>,
+    /// How many nodes are taken and not finished.
+    running: usize,
 }
 
 impl<N: NodeSet> Model for ExecState<N> {
-    ghost use Rattle.std.specs.Prelude.{vec_capacity};
+    ghost use Rattle.std.specs.Prelude.{length, vec_capacity};
     ghost use Rattle.gn_exec_core.specs.States.{State, seen, events_of, HasFlags, IsReached};
     ghost use Rattle.gn_exec_core.specs.Jobs.{Holds, lists_of};
+    ghost use Rattle.gn_exec_core.specs.Waits.{Tallies};
 
     ghost Value = { State N.Kind N.Value };
 
     ghost view = { λ s. seen s.graph s.given.value.items s.journal.items };
 
-    ghost invariant = { λ s. HasFlags s.refused.items (events_of s.journal.items) (vec_capacity s.journal) × IsReached N.meanings N.kind_of N.content (seen s.graph s.given.value.items s.journal.items) × Holds N.meanings N.kind_of N.content (seen s.graph s.given.value.items s.journal.items) s.uses s.choices.items (lists_of s.rows.items) s.answers.items };
+    ghost invariant = { λ s. HasFlags s.refused.items (events_of s.journal.items) (vec_capacity s.journal) × IsReached N.meanings N.kind_of N.content (seen s.graph s.given.value.items s.journal.items) × Holds N.meanings N.kind_of N.content (seen s.graph s.given.value.items s.journal.items) s.uses s.choices.items (lists_of s.rows.items) s.answers.items × Tallies s.graph.nodes (events_of s.journal.items) s.uses.nodes s.done.items s.unanswered.items (length s.answers.items) s.running };
 }
 
 impl<N: NodeSet> ExecState<N> {
@@ -104,6 +114,10 @@ impl<N: NodeSet> ExecState<N> {
         let uses = numbered(nodes, alloc, &graph, &choices)?;
         let journal = Vec::with_capacity(alloc, 64)?;
         let refused = vec![in alloc; false; 64]?;
+        let count = graph.len() as usize;
+        let answers = empty_slots(alloc, count)?;
+        let done = vec![in alloc; false; count]?;
+        let unanswered = imports_of(nodes, alloc, &graph)?;
         Ok(ExecState {
             graph,
             given: about,
@@ -112,7 +126,10 @@ impl<N: NodeSet> ExecState<N> {
             uses,
             choices,
             rows,
-            answers: Vec::new(alloc),
+            answers,
+            done,
+            unanswered,
+            running: 0,
         })
     }
 
@@ -161,6 +178,7 @@ impl<N: NodeSet> ExecState<N> {
         let row = row_out(&mut self.rows, number, alloc);
         read_values(role, choice_at(&self.choices, number), row, &mut job.inputs);
         job.answer = answer_out(&mut self.answers, number);
+        self.running += 1;
         self.journal.push_reserved(Happened::Take {
             worker,
             node: number as u64,
@@ -173,6 +191,57 @@ impl<N: NodeSet> ExecState<N> {
         ensures { result ≡ any_refuses self.now.events }
     {
         any_set(&self.refused)
+    }
+
+    /// Whether a node is taken and not finished.
+    pub fn busy(&self) -> bool
+        ensures { Decides result (IsBusy self.now.events) }
+    {
+        self.running > 0
+    }
+
+    /// Whether each used node is finished.
+    pub fn finished(&self) -> bool
+        ensures { Decides result (AreFinished N.meanings N.kind_of N.content self.now) }
+    {
+        are_flagged(&self.done, self.uses.used())
+    }
+
+    /// The node with this number: its path and its kind.
+    pub fn node(&self, node: u64) -> Option<&GraphNode<N::Kind>>
+        ensures { NodeIs N.meanings N.kind_of N.content self.now node (option_map (λ at. at.now) result) }
+    {
+        self.graph.node(node)
+    }
+
+    /// The import that is to be answered next: the one whose path is first, of those that are used
+    /// and have no answer yet. It is `None` exactly where none is.
+    pub fn waiting(&self) -> Option<u64>
+        ensures { WaitsFirst N.meanings N.kind_of N.content self.now result }
+    {
+        first_flagged(&self.graph, &self.unanswered, self.uses.used())
+    }
+
+    /// Hands an import its answer, which is one event. A refusal changes nothing.
+    ///
+    /// Condition: the import waits for an answer, and no worker has refused.
+    pub fn serve(&mut self, node: u64, answer: Answer) -> Result<(), Memory>
+        requires waits { MayServe N.meanings N.kind_of N.content self.old node }
+        requires none_refused { any_refuses self.old.events ≡ false }
+        ensures ok { OnOk result (self.new ≡ served_by self.old node (answer_of answer)) }
+        ensures err { OnErr result (self.new ≡ self.old) }
+    {
+        let number = node as usize;
+        if self.journal.reserve(65).is_err() {
+            return Err(Memory);
+        }
+        let kept = Snapshot::of(&answer);
+        self.answers[number] = Some(answer);
+        self.unanswered[number] = false;
+        self.uses.answer(number);
+        self.journal
+            .push_reserved(Happened::Serve { node, answer: kept });
+        Ok(())
     }
 }
 

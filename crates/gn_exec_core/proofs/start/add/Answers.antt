@@ -1,4 +1,4 @@
-use Rattle.std.proofs.Common.{◌≡◌, map, Some, sym, ap, ◌∙◌}
+use Rattle.std.proofs.Common.{map, Some, sym, ap, ◌∙◌}
 use Rattle.gn_uses.specs.Nodes.{with_choice}
 use Rattle.gn_exec_core.specs.Holds.{input_of}
 use Rattle.gn_exec_core.specs.Starts.{with_chosen}

@@ -1,4 +1,4 @@
-use Rattle.std.proofs.Common.{◌≡◌, ◌<◌, ◌+◌, [], ◌∷◌, ◌++◌, map, take, length, get_or, None, Some, sym, ap, subst, ◌∙◌, arith}
+use Rattle.std.proofs.Common.{◌<◌, ◌+◌, [], ◌∷◌, ◌++◌, map, take, length, get_or, None, sym, ap, subst, ◌∙◌, arith}
 use Rattle.gn_exec_core.specs.Holds.{input_of}
 use Rattle.gn_exec_core.specs.Starts.{HasNumbers, with_chosen}
 use Rattle.gn_exec_core.proofs.Starting.{is_at}

@@ -1,7 +1,6 @@
-use Rattle.std.proofs.Common.{◌≡◌, ◌<◌, ◌+◌, ℕ, [], ◌∷◌, ◌++◌, map, length, Some, None, Option, sym, ap, subst, ◌∙◌, arith, length-append}
-use Rattle.std.specs.Prelude.{option_map, slice_index_or, slice_get}
+use Rattle.std.proofs.Common.{◌≡◌, ◌<◌, ◌+◌, [], ◌∷◌, map, length, None, sym, ap, subst, ◌∙◌, arith, length-append}
+use Rattle.std.specs.Prelude.{option_map, slice_index_or}
 use Rattle.gn_lazy.specs.declared.graph.GraphNode.{GraphNode}
-use Rattle.gn_uses.specs.declared.nodes.Choice.{Choice}
 use Rattle.gn_exec_core.specs.Jobs.{lists_of}
 use Rattle.gn_exec_core.specs.Starts.{IsChosenBy}
 use Rattle.gn_exec_core.proofs.Using.{inside}

@@ -1,6 +1,6 @@
-use Rattle.std.proofs.Common.{◌≡◌, sym, ap, subst, ◌∙◌}
+use Rattle.std.proofs.Common.{sym, subst}
 use Rattle.gn_lazy.specs.Graphs.{AreThere}
-use Rattle.gn_exec_core.proofs.Adding.{links_in, numbers_rooted}
+use Rattle.gn_exec_core.proofs.Adding.{links_in}
 use Rattle.gn_exec_core.proofs.start.numbered.Goals as goal
 
 pub want_all-requires : goal.want_all-requires

@@ -1,4 +1,4 @@
-use Rattle.std.proofs.Common.{◌≡◌, Some, sym, ap, map, ◌∙◌}
+use Rattle.std.proofs.Common.{ap, map, ◌∙◌}
 use Rattle.std.specs.Prelude.{option_map}
 use Rattle.gn_exec_core.specs.Jobs.{lists_of}
 use Rattle.gn_exec_core.specs.Starts.{start_value}

@@ -1,8 +1,8 @@
-use Rattle.std.proofs.Common.{◌≡◌, map, Some, sym, ap, subst, ◌∙◌}
+use Rattle.std.proofs.Common.{map, Some, sym, ap, subst, ◌∙◌}
 use Rattle.gn_uses.specs.Nodes.{HasRoom}
 use Rattle.gn_exec_core.specs.Holds.{input_of}
 use Rattle.gn_exec_core.proofs.Starting.{is_at}
-use Rattle.gn_exec_core.proofs.Adding.{root_room, roots_more, all_roots}
+use Rattle.gn_exec_core.proofs.Adding.{root_room, roots_more}
 use Rattle.gn_exec_core.proofs.start.want_all.Goals as goal
 
 pub want_root-requires : goal.want_root-requires

@@ -1,10 +1,13 @@
-use Rattle.std.proofs.Common.{◌≡◌, ◌≤◌, length, map, None, true, sym, ap, subst, ◌∙◌, arith}
+use Rattle.std.proofs.Common.{◌≡◌, ◌≤◌, [], length, map, None, true, false, replicate, sym, ap, subst, ◌∙◌, arith}
 use Rattle.std.specs.Vec.{vec_capacity}
 use Rattle.std.specs.Prelude.{option_map, is_some, slice_index_or}
-use Rattle.std.proofs.lemmas.List.{length-map}
-use Rattle.gn_exec_core.specs.States.{seen}
-use Rattle.gn_exec_core.specs.Jobs.{Holds, lists_of}
+use Rattle.std.proofs.lemmas.List.{length-map, length-replicate}
+use Rattle.gn_exec_core.specs.States.{events_of, seen}
+use Rattle.gn_exec_core.specs.Jobs.{lists_of}
 use Rattle.gn_exec_core.specs.Starts.{start_value, HasNumbers}
+use Rattle.gn_exec_core.specs.Waits.{Tallies}
+use Rattle.gn_exec_core.proofs.Tallying.{tallied_first, no_other}
+use Rattle.gn_exec_core.proofs.Serving.{still_holds}
 use Rattle.gn_exec_core.proofs.Starting.{all_carry, each_may_choose, chosen_switch}
 use Rattle.gn_exec_core.proofs.Beginning.{rows_counted, begun_all, seen_begun}
 use Rattle.gn_exec_core.proofs.state.ExecState.new.Goals as goal
@@ -40,7 +43,14 @@ invariant_of-result g c =
     let all = begun_all g.N.NodeSet.meanings g.N.NodeSet.kind_of g.N.NodeSet.content c.args.graph c.args.given.items c.requires.start c.requires.conditions c.look_at.ensures
     (lists_of c.in_ok-rows.rows.items) c.in_ok-rows.ensures.values c.in_ok-choices.choices.items c.in_ok-choices.ensures.chosen c.in_ok-uses.uses are c.in_ok-uses.ensures.roots c.in_ok-uses.ensures.taken
     c.of-about.result.value.items c.in_ok-journal.journal.items c.in_ok-refused.refused.items (vec_capacity c.in_ok-journal.journal) is c.in_ok-journal.ensures.items (c.in_ok-refused.ensures.items_if_clones_equal (λ y h. h)) enough in
-    (all.0, all.1, subst (λ os. Holds g.N.NodeSet.meanings g.N.NodeSet.kind_of g.N.NodeSet.content (seen c.args.graph c.of-about.result.value.items c.in_ok-journal.journal.items) c.in_ok-uses.uses c.in_ok-choices.choices.items (lists_of c.in_ok-rows.rows.items) os) (sym c.new.ensures.items) all.2)
+    let done = c.in_ok-done.ensures.items_if_clones_equal (λ y h. h) ∙ ap (λ k. replicate k false) c.len-count.ensures in
+    let slots : length c.in_ok-answers.answers.items ≡ length c.args.graph.nodes = ap length c.in_ok-answers.ensures ∙ length-replicate c.len-count.result None ∙ c.len-count.ensures in
+    let tallies = tallied_first g.N.NodeSet.meanings g.N.NodeSet.kind_of c.args.graph.nodes c.in_ok-choices.choices.items c.in_ok-uses.uses.nodes are c.in_ok-choices.ensures.len c.in_ok-done.done.items c.in_ok-unanswered.unanswered.items (length c.in_ok-answers.answers.items) done c.in_ok-unanswered.ensures slots in (
+      all.0,
+      all.1,
+      still_holds g.N.NodeSet.meanings g.N.NodeSet.kind_of g.N.NodeSet.content (seen c.args.graph c.of-about.result.value.items c.in_ok-journal.journal.items) c.in_ok-uses.uses c.in_ok-choices.choices.items (lists_of c.in_ok-rows.rows.items) [] c.in_ok-answers.answers.items all.2 (λ k. ap (λ os. slice_index_or os k None) c.in_ok-answers.ensures ∙ no_other None c.len-count.result k),
+      subst (λ j. Tallies c.args.graph.nodes (events_of j) c.in_ok-uses.uses.nodes c.in_ok-done.done.items c.in_ok-unanswered.unanswered.items (length c.in_ok-answers.answers.items) 0) (sym c.in_ok-journal.ensures.items) tallies,
+    )
 
 pub returns-clause-state : goal.returns-clause-state
 returns-clause-state g c =
