@@ -1,13 +1,12 @@
 -- How many faces and corners a topology has.
-use Rattle.std.proofs.Common.{◌≡◌, ℕ, zero, suc, ◌+◌, ◌-◌, ◌≤◌, List, [], ◌∷◌, length, map, take, drop, refl, sym, ap, ap₂, ◌∙◌, subst, arith}
+use Rattle.std.proofs.Common.{◌≡◌, ℕ, suc, ◌+◌, ◌-◌, ◌≤◌, List, [], ◌∷◌, length, map, drop, refl, sym, ap, ◌∙◌, subst, arith}
 use Rattle.std.proofs.lemmas.List.{length-take-le, length-drop}
 use Rattle.std.proofs.lemmas.List.Sums.{sum_by-cons}
 use Rattle.std.specs.Prelude.{slice_range, sum}
 use Rattle.gn_value.specs.declared.vector.V3.{V3}
-use Rattle.gn_value.specs.declared.value.Place.{Place}
-use Rattle.gn_value.specs.declared.value.Place.TheVariants.{Point, Edge, Face, Corner, Cloud, Instance}
+use Rattle.gn_value.specs.declared.value.Place.TheVariants.{Face, Corner}
 use Rattle.gn_plain.specs.Geometry.{count_in}
-use Rattle.gn_plain.specs.Topology.{Topology, IsValid, RiseTo, AreOffsets, corners_of, edge_of, faces_of, parts_between, shape_of}
+use Rattle.gn_plain.specs.Topology.{Topology, IsValid, RiseTo, AreOffsets, corners_of, parts_between, shape_of}
 use Rattle.gn_plain.proofs.TopologyLemmas.{le_from_RiseTo, length-corners}
 
 -- one part fewer than there are offsets

@@ -1,6 +1,6 @@
 -- The definitions at small values.
-use Rattle.std.proofs.Common.{◌≡◌, ℕ, true, false, List, [], ◌∷◌, Some, None, pos, refl}
-use Rattle.gn_value.specs.declared.value.Place.TheVariants.{Point, Edge, Face, Corner, Cloud, Instance}
+use Rattle.std.proofs.Common.{◌≡◌, ℕ, true, false, [], ◌∷◌, Some, None, refl}
+use Rattle.gn_value.specs.declared.value.Place.TheVariants.{Point, Face, Corner, Cloud, Instance}
 use Rattle.gn_shared.specs.Count.{Count}
 use Rattle.gn_plain.specs.Geometry as plain
 use Rattle.gn_plain.proofs.Samples.{two_triangles}

@@ -1,5 +1,5 @@
 -- Columns that fit still do after a change.
-use Rattle.std.proofs.Common.{◌≡◌, ℕ, suc, Bool, true, false, cond, List, [], ◌∷◌, length, Option, Some, None, Result, Ok, Err, OnOk, OnErr, IfSome, IfNone, is_some, ap, sym, refl, ◌∙◌, subst}
+use Rattle.std.proofs.Common.{◌≡◌, ℕ, suc, Bool, true, false, cond, List, [], ◌∷◌, length, Option, Some, None, Result, Ok, Err, OnOk, OnErr, IfSome, IfNone, ap, sym, refl, ◌∙◌, subst}
 use Rattle.std.specs.List.{AllZip}
 use Rattle.gn_value.specs.declared.value.Place.{Place}
 use Rattle.gn_shared.specs.Count.{Count}

@@ -1,5 +1,5 @@
 -- Meshes and clouds stay so when their points are elsewhere, and when their arrays are handed on.
-use Rattle.std.proofs.Common.{◌≡◌, ℕ, ◌++◌, ◌∷◌, [], List, length, drop, Option, Some, None, refl, sym, ap, subst, arith, Bool, ◌<◌, ◌^◌, ◌∙◌}
+use Rattle.std.proofs.Common.{◌≡◌, ℕ, ◌++◌, [], List, length, drop, Some, refl, sym, ap, subst, arith, Bool, ◌<◌, ◌^◌}
 use Rattle.std.proofs.lemmas.List.{length-take, length-append, length-drop}
 use Rattle.std.specs.List.{AllZip}
 use Rattle.gn_value.specs.declared.vector.V3.{V3}
@@ -7,14 +7,11 @@ use Rattle.gn_value.specs.declared.value.Place.{Place}
 use Rattle.gn_value.specs.declared.value.Place.TheVariants.{Point, Edge, Face, Corner, Cloud, Instance}
 use Rattle.gn_shared.specs.Arrays.{ArrayView}
 use Rattle.gn_shared.specs.Writing.{written}
-use Rattle.gn_plain.specs.Columns.{Entry}
-use Rattle.gn_plain.specs.Geometry.{Shape, count_in}
 use Rattle.gn_plain.specs.Topology.{Topology, IsValid, IsNumbered, shape_of}
 use Rattle.gn_attr.specs.Columns.{KeepsEntry, IsTwinEntry}
-use Rattle.gn_attr.specs.declared.column.Column.{Column}
 use Rattle.gn_geom.specs.Meshes.{MeshArrays, IsMesh, AreLoose, plain_of, topology, topology_of}
 use Rattle.gn_geometry.specs.Fits.{AreFitting, mesh_count, cloud_count}
-use Rattle.gn_geometry.specs.Meshes.{MeshView, IsColumned, KeepsShape, KeepsMesh, IsTwinShape, IsTwinMesh, with_points}
+use Rattle.gn_geometry.specs.Meshes.{MeshView, IsColumned, KeepsShape, IsTwinShape, with_points}
 use Rattle.gn_geometry.specs.Clouds.{CloudView, IsCloud, moved}
 use Rattle.gn_geometry.proofs.Fitting.{fit_same, fit_kept, fit_twins}
 

@@ -1,7 +1,6 @@
 -- A list of parts of which the first ones have twins.
 use Rattle.std.proofs.Common.{◌≡◌, ℕ, zero, suc, ◌+◌, ◌<◌, ◌≤◌, Bool, List, [], ◌∷◌, ◌++◌, length, drop, take, set, get_or, refl, ap, sym, subst, ◌∙◌, arith, append_assoc, add-one, take_all}
 use Rattle.std.specs.List.{AllZip, flat_map}
-use Rattle.std.proofs.lemmas.List.{take_more}
 use Rattle.std.proofs.lemmas.List.Elements.{all_zip_more}
 use Rattle.gn_shared.specs.Count.{Count}
 use Rattle.gn_geometry.specs.Notes.{noted_each, NotesFirst}

@@ -1,5 +1,5 @@
 -- What clauses see of a cloud of points, and the plain cloud that it stands for.
-use Rattle.std.specs.Prelude.{◌≡◌, ◌<◌, ◌^◌, Bool, List, ◌∷◌, length}
+use Rattle.std.specs.Prelude.{◌<◌, ◌^◌, Bool, List, ◌∷◌, length}
 use Rattle.std.specs.List.{AllZip}
 use Rattle.gn_value.specs.declared.vector.V3.{V3}
 use Rattle.gn_shared.specs.Arrays.{ArrayView}

@@ -1,5 +1,5 @@
 -- What clauses see of a geometry and of instances, and the plain geometry that they stand for.
-use Rattle.std.specs.Prelude.{◌≡◌, ℕ, suc, ◌+◌, ◌<◌, ◌≤◌, ◌^◌, max, pos, Bool, List, [], ◌∷◌, ◌++◌, length, All, Option, Some, None, slice_index_or, slice_set}
+use Rattle.std.specs.Prelude.{◌≡◌, ℕ, suc, ◌+◌, ◌<◌, ◌≤◌, ◌^◌, max, pos, Bool, List, [], ◌∷◌, ◌++◌, length, All, Option, slice_index_or, slice_set}
 use Rattle.std.specs.List.{AllZip}
 use Rattle.std.proofs.Common.{arith, refl, ap}
 use denote.Param.Weighed.{most}
@@ -8,7 +8,6 @@ use Rattle.gn_value.specs.declared.value.Place.{Place}
 use Rattle.gn_value.specs.declared.value.Place.TheVariants.{Instance}
 use Rattle.gn_value.specs.Values.{v3}
 use Rattle.gn_plain.specs.Columns.{Entry}
-use Rattle.gn_plain.specs.Columns as columns
 use Rattle.gn_plain.specs.Geometry as plain
 use Rattle.gn_attr.specs.declared.column.Column.{Column}
 use Rattle.gn_attr.specs.Columns.{plain_columns, AreSole, KeepsEntry, IsTwinEntry}

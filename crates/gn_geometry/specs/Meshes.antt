@@ -1,5 +1,5 @@
 -- What clauses see of a mesh with columns, and the plain mesh that it stands for.
-use Rattle.std.specs.Prelude.{◌≡◌, ◌<◌, ◌^◌, Bool, List, [], ◌∷◌, ◌++◌, length, map}
+use Rattle.std.specs.Prelude.{Bool, List, [], ◌∷◌, ◌++◌, map}
 use Rattle.std.specs.List.{AllZip}
 use Rattle.gn_value.specs.declared.vector.V3.{V3}
 use Rattle.gn_shared.specs.Arrays.{ArrayView}

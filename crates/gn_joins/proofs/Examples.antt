@@ -1,14 +1,14 @@
 -- Joins, transforms and realised geometry, by computation.
-use Rattle.std.proofs.Common.{◌≡◌, ℕ, ◌+◌, ◌-◌, ◌*◌, ◌^◌, List, [], ◌∷◌, Some, None, true, false, pos, negsuc, codes, map, refl}
+use Rattle.std.proofs.Common.{◌≡◌, ℕ, ◌+◌, ◌-◌, ◌*◌, ◌^◌, List, [], ◌∷◌, Some, None, true, false, pos, codes, refl}
 use Rattle.gn_value.specs.Values.{fx, v3, converted}
 use Rattle.gn_value.specs.Arithmetic.{exact_product}
 use Rattle.gn_value.specs.declared.vector.V3.{V3}
 use Rattle.gn_value.specs.declared.value.Place.{Place}
 use Rattle.gn_value.specs.declared.value.Place.TheVariants.{Point, Edge, Face, Corner, Cloud, Instance}
 use Rattle.gn_plain.specs.Columns.{named, Values, truths, ints, fixed_numbers, Column}
-use Rattle.gn_plain.specs.Geometry.{Shape, Geometry, Transform, of_shape, empty, no_cloud, no_instances, with_columns, and_placed, none_placed, placed_in, transforms, depth}
-use Rattle.gn_plain.proofs.Samples.{units, at_units, edge, corner, triangle}
-use Rattle.gn_joins.specs.Transforms.{moved, moved_point, moved_transform}
+use Rattle.gn_plain.specs.Geometry.{Geometry, Transform, of_shape, empty, with_columns, and_placed, none_placed, placed_in, transforms, depth}
+use Rattle.gn_plain.proofs.Samples.{at_units, edge, corner, triangle}
+use Rattle.gn_joins.specs.Transforms.{moved_point, moved_transform}
 use Rattle.gn_joins.specs.Joins.{joined}
 use Rattle.gn_joins.specs.Limits.{first_over, all_places}
 use Rattle.gn_joins.specs.Realized.{realized}

@@ -1,11 +1,11 @@
 -- The lists of a mesh behind those of another are those of a mesh.
-use Rattle.std.proofs.Common.{◌≡◌, ◌≢◌, ℕ, zero, suc, ◌+◌, ◌-◌, ◌<◌, ◌≤◌, List, [], ◌∷◌, ◌++◌, length, map, drop, take, get_or, refl, sym, ap, subst, ◌∙◌, arith}
+use Rattle.std.proofs.Common.{◌≡◌, ◌≢◌, ℕ, suc, ◌+◌, ◌-◌, ◌<◌, List, [], ◌∷◌, ◌++◌, length, map, drop, get_or, refl, sym, ap, subst, ◌∙◌, arith}
 use Rattle.std.specs.List.{All, AllPairs, zip}
 use Rattle.std.specs.Prelude.{slice_range}
 use Rattle.std.proofs.lemmas.List.{length-append, length-map, get_or-append-add, get_or_append_left}
 use Rattle.std.proofs.lemmas.List.Elements.{All-append, All-cons, All-drop, All-head, All-map, All-nil, All-tail, All-take, All-weaker}
 use Rattle.std.proofs.lemmas.List.Kept.{AllPairs-cons}
-use Rattle.gn_plain.specs.Edges.{Edge, edges_around}
+use Rattle.gn_plain.specs.Edges.{edges_around}
 use Rattle.gn_plain.specs.Geometry.{Corner}
 use Rattle.gn_plain.specs.Topology.{Topology, IsValid, IsJoined, RiseTo, AreOffsets, edge_of, edge_at, corner_of, corners_of, parts_between, faces_of, vertices_of}
 use Rattle.gn_joins.specs.Joins.{edge_behind, corner_behind}

@@ -1,11 +1,10 @@
 -- The join of geometries: their elements one after another, with the numbers shifted, and their columns.
-use Rattle.std.specs.Prelude.{ℕ, ◌+◌, Bool, List, [], ◌∷◌, ◌++◌, length, map, fold, flat_map, is_some, if◌then◌else◌}
+use Rattle.std.specs.Prelude.{ℕ, ◌+◌, List, [], ◌∷◌, ◌++◌, length, map, fold, flat_map, is_some, if◌then◌else◌}
 use Rattle.std.specs.List.{range_with_len}
 use Rattle.gn_value.specs.Values.{fx, as_truth, as_int, as_fixed, as_vector, zero_of}
 use Rattle.gn_value.specs.declared.value.Value.{Value}
 use Rattle.gn_value.specs.declared.value.ValueKind.{ValueKind}
 use Rattle.gn_value.specs.declared.value.ValueKind.TheVariants.{Truth, Int, Fixed, Vector}
-use Rattle.gn_value.specs.declared.value.Place.{Place}
 use Rattle.gn_value.specs.declared.value.Place.TheVariants as place
 use Rattle.gn_plain.specs.Edges.{Edge}
 use Rattle.gn_plain.specs.Columns.{Entry, Column, Values, truths, ints, fixed_numbers, vectors, entry_named, kind_of_values}

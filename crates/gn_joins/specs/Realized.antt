@@ -2,7 +2,7 @@
 use Rattle.std.specs.Prelude.{ℕ, suc, ◌==◌, List, [], ◌∷◌, ◌++◌, length, replicate, is_some, if◌then◌else◌}
 use Rattle.gn_value.specs.declared.value.Place.{Place}
 use Rattle.gn_value.specs.declared.value.Place.TheVariants as place
-use Rattle.gn_plain.specs.Columns.{Entry, Column, Values, entry_named, kind_of_values, value_of}
+use Rattle.gn_plain.specs.Columns.{Column, Values, entry_named, kind_of_values, value_of}
 use Rattle.gn_plain.specs.Geometry.{Mesh, Cloud, Geometry, Instances, with_columns, Placed, none_placed, and_placed, no_instances}
 use Rattle.gn_joins.specs.Joins.{joined, values_in}
 use Rattle.gn_joins.specs.Transforms.{moved}

@@ -1,9 +1,9 @@
 -- Points and geometry under a transform.
-use Rattle.std.specs.Prelude.{◌+ℤ◌, ℤ, List, map}
+use Rattle.std.specs.Prelude.{◌+ℤ◌, ℤ, map}
 use Rattle.gn_value.specs.Arithmetic.{sat}
 use Rattle.gn_value.specs.Values.{dot_of, exact_dot, v3}
 use Rattle.gn_value.specs.declared.vector.V3.{V3}
-use Rattle.gn_plain.specs.Geometry.{Shape, Mesh, Cloud, Geometry, Transform, Instances, with_columns, Placed, none_placed, and_placed}
+use Rattle.gn_plain.specs.Geometry.{Mesh, Cloud, Geometry, Transform, Instances, with_columns, Placed, none_placed, and_placed}
 
 -- the products of a row, each rounded down, and the translation, added exactly and brought into range once
 abbrev pub along : V3 → ℤ → V3 → ℤ

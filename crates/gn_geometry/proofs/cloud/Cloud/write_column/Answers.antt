@@ -1,4 +1,4 @@
-use Rattle.std.proofs.Common.{length, sym, subst}
+use Rattle.std.proofs.Common.{length}
 use Rattle.gn_attr.specs.Names.{plain_name}
 use Rattle.gn_attr.specs.Columns.{values_of}
 use Rattle.gn_geometry.specs.Fits.{cloud_count}

@@ -1,4 +1,3 @@
-use Rattle.std.proofs.Common.{sym, subst}
 use Rattle.gn_geom.specs.Meshes.{plain_of}
 use Rattle.gn_attr.specs.Names.{plain_name}
 use Rattle.gn_attr.specs.Columns.{values_of}
