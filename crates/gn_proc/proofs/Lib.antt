@@ -1,4 +1,1 @@
-pub mod Reading
-pub mod Planning
 pub mod Tapes
-mod Examples

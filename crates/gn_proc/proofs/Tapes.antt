@@ -5,8 +5,8 @@ use Rattle.gn_plain.specs.Fields.{Expr, Sources}
 use Rattle.gn_plain.specs.Subtrees.{count_different}
 use Rattle.gn_field.specs.declared.step.FieldStep.{FieldStep}
 use Rattle.gn_field.specs.Together.{AreTogether}
-use Rattle.gn_proc.specs.declared.plan.Plan.{Plan}
-use Rattle.gn_proc.specs.Plans.{IsPlan}
+use Rattle.gn_schedule.specs.declared.plan.Plan.{Plan}
+use Rattle.gn_schedule.specs.Plans.{IsPlan}
 use Rattle.gn_proc.specs.Tapes.{AreSteps, IsTape}
 
 module _ {S : Type 0} where

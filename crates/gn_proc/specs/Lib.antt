@@ -1,3 +1,2 @@
-pub mod Plans
-pub mod Tapes
 pub mod Faults
+pub mod Tapes

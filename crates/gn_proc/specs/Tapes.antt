@@ -6,8 +6,8 @@ use Rattle.gn_plain.specs.Subtrees.{count_different}
 use Rattle.gn_field.specs.declared.step.FieldStep.{FieldStep}
 use Rattle.gn_field.specs.Steps.{AreBelow, LeadBack, named, built, keys}
 use Rattle.gn_field.specs.Kinds.{HasKinds}
-use Rattle.gn_proc.specs.declared.plan.Plan.{Plan}
-use Rattle.gn_proc.specs.Plans.{IsPlan}
+use Rattle.gn_schedule.specs.declared.plan.Plan.{Plan}
+use Rattle.gn_schedule.specs.Plans.{IsPlan}
 
 -- steps lead back, their arguments have the kinds that are taken, and there is one for each different subtree of the fields at some places
 pub record AreSteps {S : Type 0} (sources : Sources S) (taken : S → ValueKind) (xs : List (FieldStep S)) (roots : List ℕ) : Type 0 where

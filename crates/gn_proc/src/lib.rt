@@ -4,13 +4,11 @@
 //! that a tape has exactly as many instructions as its fields have different subtrees, and that
 //! `TooMany` comes exactly where these are more than 4,096, with their number.
 //!
-//! A tape keeps a plan, which says in which order steps are run and in which slot each leaves its
-//! values. A slot is taken again once the last step that reads it has run. The crate stands on
-//! `gn_field` for the steps, and on `gn_plain`, whose expressions say what fields are.
+//! A tape keeps a plan, which says in which order its steps are run and in which slot each leaves its
+//! values. The crate stands on `gn_field` for the steps, on `gn_schedule` for plans, and on `gn_plain`,
+//! whose expressions say what fields are.
 #![tactic(auto)]
 
-mod plan;
-mod readers;
 mod tape;
 
 pub use tape::{Tape, TapeFault, build};

@@ -6,9 +6,9 @@ ghost use Rattle.gn_field.specs.Steps.{named, built};
 ghost use Rattle.gn_proc.specs.Tapes.{AreSteps};
 ghost use Rattle.gn_proc.specs.Faults.{IsTapeFault};
 
-use crate::plan::{Plan, plan_of};
 use gn_field::{Field, FieldStep, Gathered, Source};
 use gn_memory::Memory;
+use gn_schedule::{Plan, plan_of};
 use std::alloc::Global;
 use std::marker::Model;
 use thiserror::Error;
