@@ -66,11 +66,7 @@ fn numbers_of_node(alloc: Global, names: &Names<'_>, node: &Node) -> Result<Vec<
 
 /// For each node the numbers of the nodes of the list that its links come from.
 #[tactic(auto, using(crate::proofs::Leading::graph_then))]
-pub(crate) fn edges_of(
-    alloc: Global,
-    names: &Names<'_>,
-    nodes: &[Node],
-) -> Result<Vec<Vec<usize>>, Memory>
+pub fn edges_of(alloc: Global, names: &Names<'_>, nodes: &[Node]) -> Result<Vec<Vec<usize>>, Memory>
     ensures { IfOk result (λ edges. lists edges.items ≡ graph_from names.now (nodes_of nodes.now)) }
 {
     let mut edges = Vec::with_capacity(alloc, nodes.len())?;

@@ -12,7 +12,7 @@ use std::alloc::Global;
 
 /// Which sockets of a group are meant.
 #[derive(Clone, Copy)]
-pub(crate) enum Side {
+pub enum Side {
     Inputs,
     Outputs,
 }
@@ -80,7 +80,8 @@ impl<'a> Groups<'a> {
         }
     }
 
-    fn at(&self, side: Side, position: usize) -> &Sockets<'a>
+    /// The inputs or the outputs of the group with that number; none where there is no such group.
+    pub fn at(&self, side: Side, position: usize) -> &Sockets<'a>
         ensures { sockets_in result.now
             ≡ option_map_or (side_of side) (slice_get (groups_in self.now) position) [] }
     {
@@ -92,7 +93,7 @@ impl<'a> Groups<'a> {
     }
 
     /// The inputs or the outputs of the group with that name; none where there is no such group.
-    pub(crate) fn sockets(&self, side: Side, name: &str) -> &Sockets<'a>
+    pub fn sockets(&self, side: Side, name: &str) -> &Sockets<'a>
         ensures { sockets_in result.now
             ≡ option_map_or (side_of side) (group_named (groups_in self.now) name.now) [] }
     {

@@ -15,7 +15,8 @@ mod scope;
 mod setting;
 mod sockets;
 
-pub use groups::Groups;
+pub use edges::edges_of;
+pub use groups::{Groups, Side};
 pub use scope::{Entries, Inputs, Scope};
-pub use setting::{group_set, is_zone, zone_set};
-pub use sockets::{Sockets, single};
+pub use setting::{chosen, group_in, group_set, is_zone, zone_set};
+pub use sockets::{Sockets, input_rows, input_shape, output_rows, output_shape, single};

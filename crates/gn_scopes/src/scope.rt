@@ -55,7 +55,7 @@ pub struct Scope<'s, 't> {
     items: Vec<Sockets<'t>>,
     /// For the rule on order: which node leads to which.
     graph: Graph,
-    entries: Entries<'s, 't>,
+    pub entries: Entries<'s, 't>,
     pub groups: &'s Groups<'t>,
     /// How many of the groups stand above.
     pub above: usize,
@@ -172,7 +172,7 @@ impl<'s, 't> Scope<'s, 't> {
     }
 
     /// The further inputs or outputs of the node with that number, which has these settings.
-    fn further(&self, side: Side, number: usize, settings: &[Setting]) -> &Sockets<'t>
+    pub fn further(&self, side: Side, number: usize, settings: &[Setting]) -> &Sockets<'t>
         requires { IsSomeAnd (slice_get self.now.nodes.now.items number) (λ node. settings_in node ≡ settings_of settings.now) }
         ensures { sockets_in result.now
             ≡ named.further (side_of side) (groups_in self.now.groups.now) (settings_of settings.now) }

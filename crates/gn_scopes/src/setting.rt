@@ -37,7 +37,7 @@ pub fn zone_set(setting: &Setting) -> Option<&Zone>
 
 /// The kind that the setting `type` names; geometry without that setting.
 #[tactic(auto, using(crate::proofs::Looking::chosen_then))]
-pub(crate) fn chosen(settings: &[Setting]) -> SocketKind
+pub fn chosen(settings: &[Setting]) -> SocketKind
     ensures { result ≡ sockets.chosen (seen.settings_of settings.now) }
 {
     for setting in settings {
@@ -50,7 +50,7 @@ pub(crate) fn chosen(settings: &[Setting]) -> SocketKind
 
 /// The name of the group that is named.
 #[tactic(auto, using(crate::proofs::Looking::group_then))]
-pub(crate) fn group_in(settings: &[Setting]) -> Option<&str>
+pub fn group_in(settings: &[Setting]) -> Option<&str>
     ensures { option_map (λ name. name.now) result ≡ sockets.group_in (seen.settings_of settings.now) }
 {
     for setting in settings {

@@ -32,7 +32,7 @@ fn of_values(kind: ValueKind) -> SocketKind
 }
 
 /// What an input takes, where the setting `type` names the kind.
-fn input_shape(row: InputRow, chosen: SocketKind) -> Shape
+pub fn input_shape(row: InputRow, chosen: SocketKind) -> Shape
     ensures { result ≡ (rule.input_of_row chosen (seen.input_of row)).shape }
 {
     match row {
@@ -48,7 +48,7 @@ fn input_shape(row: InputRow, chosen: SocketKind) -> Shape
 }
 
 /// What an output gives, where the setting `type` names the kind.
-fn output_shape(row: OutputRow, chosen: SocketKind) -> Shape
+pub fn output_shape(row: OutputRow, chosen: SocketKind) -> Shape
     ensures { result ≡ (rule.output_of_row chosen (seen.output_of row)).shape }
 {
     match row {
@@ -59,7 +59,7 @@ fn output_shape(row: OutputRow, chosen: SocketKind) -> Shape
 }
 
 /// The rows of the inputs of a kind of node.
-pub(crate) fn input_rows(kind: &str) -> &'static [InputRow]
+pub fn input_rows(kind: &str) -> &'static [InputRow]
     ensures { map seen.input_of result.now ≡ rule.inputs_of_kind kind.now }
 {
     match find_row(kind) {
@@ -68,7 +68,8 @@ pub(crate) fn input_rows(kind: &str) -> &'static [InputRow]
     }
 }
 
-fn output_rows(kind: &str) -> &'static [OutputRow]
+/// The rows of the outputs of a kind of node.
+pub fn output_rows(kind: &str) -> &'static [OutputRow]
     ensures { map seen.output_of result.now ≡ rule.outputs_of_kind kind.now }
 {
     match find_row(kind) {
