@@ -1,4 +1,4 @@
-//! Tests of the kinds of nodes and of the graphs of trees, each by its public calls.
+//! Tests of the kinds of nodes, of the tables of lists and of the graphs of trees, each by its public calls.
 //!
 //! They are in a crate of their own, since a crate with tests is proved once more for them. The crate promises
 //! nothing of its own.
@@ -10,3 +10,5 @@ mod kinds;
 mod laws;
 #[cfg(test)]
 mod order;
+#[cfg(test)]
+mod tables;

@@ -8,9 +8,9 @@ use Rattle.gn_kinds.specs.declared.row.DefaultValue.TheVariants.{Zero}
 use Rattle.gn_node_set.specs.Meanings.{a_value}
 use Rattle.gn_meaning.specs.Sites as sites
 use Rattle.gn_meaning.specs.Sites.{default_at}
-use Rattle.gn_lower.specs.declared.constant.Constant.{Constant}
-use Rattle.gn_lower.specs.declared.constant.Constant.TheVariants.{Value, Position, NoGeometry}
-use Rattle.gn_lower.specs.Constants.{name_of}
+use Rattle.gn_table.specs.declared.constant.Constant.{Constant}
+use Rattle.gn_table.specs.declared.constant.Constant.TheVariants.{Value, Position, NoGeometry}
+use Rattle.gn_table.specs.Constants.{name_of}
 use Rattle.gn_lower.specs.Lowered.{source_of, task_of}
 
 two_constants : List Constant

@@ -13,7 +13,7 @@ use Rattle.gn_meaning.specs.Denotation.{Given}
 use Rattle.gn_stands.specs.Stands.{StandsFor}
 use Rattle.gn_found.specs.Claims.{LinksLeadInto, LinksLeadBack}
 use Rattle.gn_found.specs.Filled.{fill_task}
-use Rattle.gn_lower.specs.declared.constant.Constant.{Constant}
+use Rattle.gn_table.specs.declared.constant.Constant.{Constant}
 use Rattle.gn_lower.specs.Lowered.{Lowers}
 
 -- the graph stands for the tree, its nodes have different paths, and its links lead back

@@ -19,8 +19,8 @@ use Rattle.gn_meaning.specs.Bodies.{Body}
 use Rattle.gn_meaning.specs.There.{LeadsTo}
 use Rattle.gn_stands.specs.Tasks.{task_within}
 use Rattle.gn_found.specs.Filled.{by_name}
-use Rattle.gn_lower.specs.declared.constant.Constant.{Constant}
-use Rattle.gn_lower.specs.Constants.{name_of}
+use Rattle.gn_table.specs.declared.constant.Constant.{Constant}
+use Rattle.gn_table.specs.Constants.{name_of}
 
 -- what a graph gives by name: none for its input
 abbrev pub Named : Type 0

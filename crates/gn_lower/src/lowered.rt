@@ -1,5 +1,5 @@
-use crate::constant::Constant;
 use gn_lazy::Graph;
+use gn_table::Constant;
 use gn_tree::Kind;
 
 /// A graph that was made of a tree, with its constants by their slots.

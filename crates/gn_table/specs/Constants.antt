@@ -1,7 +1,7 @@
 -- Constants of the code by name.
 use Rattle.gn_meaning.specs.Sites as sites
-use Rattle.gn_lower.specs.declared.constant.Constant.{Constant}
-use Rattle.gn_lower.specs.declared.constant.Constant.TheVariants.{Value, Position, Index, Id, NoGeometry}
+use Rattle.gn_table.specs.declared.constant.Constant.{Constant}
+use Rattle.gn_table.specs.declared.constant.Constant.TheVariants.{Value, Position, Index, Id, NoGeometry}
 
 abbrev pub name_of : Constant → sites.Constant
 name_of (Value v) = sites.a_value v

@@ -19,7 +19,7 @@ pub enum Constant {
 impl Constant {
     ghost use Rattle.std.specs.Prelude.{◌≡◌};
     ghost use Rattle.gn_meaning.specs.Sites.{default_at, one_at, zero_at};
-    ghost use Rattle.gn_lower.specs.Constants.{name_of};
+    ghost use Rattle.gn_table.specs.Constants.{name_of};
 
     /// The zero of a kind; of geometry the empty one.
     fn zero(kind: SocketKind) -> Constant

@@ -1,0 +1,4 @@
+pub mod Constants
+pub mod Reads
+pub mod Finding
+pub mod Tables
