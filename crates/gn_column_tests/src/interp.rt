@@ -8,7 +8,7 @@ use std::process::Abort;
 use std::test::Fail;
 
 /// The triangle 0 1 2 and the quad 1 3 4 2, which share an edge, and a vertex that nothing has.
-fn sample(alloc: Global) -> Result<Mesh, Fail> {
+pub(crate) fn sample(alloc: Global) -> Result<Mesh, Fail> {
     let edges = [(0, 1), (1, 2), (0, 2), (1, 3), (3, 4), (2, 4)];
     let mesh = Mesh::from_parts(
         alloc,

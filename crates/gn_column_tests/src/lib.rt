@@ -1,4 +1,4 @@
-//! Tests of columns, of interpolation and of geometry with columns, each by its public calls.
+//! Tests of columns, of interpolation, of sums over groups and of geometry with columns, each by its public calls.
 //!
 //! They are in a crate of their own, since a crate with tests is proved once more for them. The crate promises
 //! nothing of its own.
@@ -10,5 +10,6 @@ mod attr;
 mod cloud;
 #[cfg(test)]
 mod geometry;
+mod elsewhere;
 #[cfg(test)]
 mod interp;

@@ -1,0 +1,5 @@
+mod Numbering
+mod Adding
+pub mod Accumulating
+pub mod Registers
+mod Examples
