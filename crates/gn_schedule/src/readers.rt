@@ -53,7 +53,7 @@ fn mark_step<S>(readers: &mut Vec<u32>, steps: &[FieldStep<S>], at: usize)
     mark_operands(readers, &steps[at], at as u32 + 1);
 }
 
-/// As many zeros: no step is noted.
+/// A zero for each step: no step is noted.
 fn none_noted(alloc: Global, count: usize) -> Result<Vec<u32>, Memory>
     ensures len { IfOk result (λ readers. length readers.items ≡ count) }
     ensures none { IfOk result (λ readers. (k : ℕ) → slice_index readers.items k ≡ 0) }
