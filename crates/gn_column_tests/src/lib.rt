@@ -9,7 +9,8 @@ mod attr;
 #[cfg(test)]
 mod cloud;
 #[cfg(test)]
-mod geometry;
 mod elsewhere;
+#[cfg(test)]
+mod geometry;
 #[cfg(test)]
 mod interp;
