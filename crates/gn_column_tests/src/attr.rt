@@ -79,7 +79,7 @@ fn a_b_a(alloc: Global) -> Result<Columns, Memory> {
 fn a_column_that_is_set_again_keeps_its_number(rt: HostRuntime) -> Result<(), Fail> {
     let columns = a_b_a(rt.alloc())?;
     let (a, b) = (named(rt.alloc(), "a")?, named(rt.alloc(), "b")?);
-    assert_eq!(rt; columns.len(), 2);
+    assert!(rt; columns.len() == 2);
     assert!(rt; is_at(&columns, 0, &a, Place::Face, &[3, 4]));
     assert!(rt; is_at(&columns, 1, &b, Place::Point, &[2]));
     assert!(rt; columns.entry(2).is_none());

@@ -36,121 +36,118 @@ fn added(
     Ok(sums(alloc, part, values, groups)?)
 }
 
-/// Compares the sums of integers in groups with those that are wanted.
+/// Whether two registers have the same values of one kind.
+fn is_same(one: &Register, other: &Register) -> bool {
+    match (one, other) {
+        (Register::Truth(one), Register::Truth(other)) => one.as_slice() == other.as_slice(),
+        (Register::Int(one), Register::Int(other)) => one.as_slice() == other.as_slice(),
+        (Register::Fixed(one), Register::Fixed(other)) => one.as_slice() == other.as_slice(),
+        (Register::Vector(one), Register::Vector(other)) => one.as_slice() == other.as_slice(),
+        _ => false,
+    }
+}
+
+fn truths(alloc: Global, values: &[bool]) -> Result<Register, Fail> {
+    Ok(Register::Truth(values.to_vec(alloc)?))
+}
+
+fn integers(alloc: Global, values: &[i32]) -> Result<Register, Fail> {
+    Ok(Register::Int(values.to_vec(alloc)?))
+}
+
+fn fixed(alloc: Global, raw: &[i64]) -> Result<Register, Fail> {
+    let mut values = Vec::new(alloc);
+    for &number in raw {
+        values.push(Fx(number))?;
+    }
+    Ok(Register::Fixed(values))
+}
+
+fn vectors(alloc: Global, raw: &[(i64, i64, i64)]) -> Result<Register, Fail> {
+    let mut values = Vec::new(alloc);
+    for &(x, y, z) in raw {
+        let (x, y, z) = (Fx(x), Fx(y), Fx(z));
+        values.push(V3 { x, y, z })?;
+    }
+    Ok(Register::Vector(values))
+}
+
+/// Compares the sums of values in groups with those that are wanted.
 fn compare(
     rt: &impl Abort,
     alloc: Global,
-    part: Part,
-    values: &[i32],
-    groups: &[i32],
-    want: &[i32],
+    (part, values, groups): (Part, Register, &[i32]),
+    want: Register,
 ) -> Result<(), Fail> {
-    let values = Register::Int(values.to_vec(alloc)?);
-    match added(rt, alloc, part, &values, groups)? {
-        Register::Int(sums) => assert_eq!(rt; sums.as_slice(), want),
-        _ => return Err("another kind".into()),
-    }
+    let sums = added(rt, alloc, part, &values, groups)?;
+    assert!(rt; is_same(&sums, &want));
     Ok(())
 }
 
 #[test]
 fn integers_add_up_within_their_group(rt: HostRuntime) -> Result<(), Fail> {
-    let alloc = rt.alloc();
-    let values = [5, -2, 7, 1, 4];
-    let groups = [3, 3, -1, 3, -1];
-    compare(&rt, alloc, Leading, &values, &groups, &[5, 3, 7, 4, 11])?;
-    compare(&rt, alloc, Trailing, &values, &groups, &[0, 5, 0, 3, 7])?;
-    compare(&rt, alloc, Total, &values, &groups, &[4, 4, 11, 4, 11])?;
-    compare(&rt, alloc, Total, &[], &[], &[])
-}
-
-#[test]
-fn a_sum_is_saturated_at_its_end_alone(rt: HostRuntime) -> Result<(), Fail> {
+    let (values, groups): (&[i32], &[i32]) = (&[5, -2, 7, 1, 4], &[3, 3, -1, 3, -1]);
     let most = i32::MAX;
-    let want = [most, most, most - 1];
-    compare(&rt, rt.alloc(), Leading, &[most, 1, -2], &[0; 3], &want)
+    let rows: [(Part, &[i32], &[i32], &[i32]); 5] = [
+        (Leading, values, groups, &[5, 3, 7, 4, 11]),
+        (Trailing, values, groups, &[0, 5, 0, 3, 7]),
+        (Total, values, groups, &[4, 4, 11, 4, 11]),
+        (Total, &[], &[], &[]),
+        (Leading, &[most, 1, -2], &[0; 3], &[most, most, most - 1]),
+    ];
+    for (part, values, groups, want) in rows {
+        let values = integers(rt.alloc(), values)?;
+        let want = integers(rt.alloc(), want)?;
+        compare(&rt, rt.alloc(), (part, values, groups), want)?;
+    }
+    Ok(())
 }
 
 #[test]
-fn fixed_numbers_and_vectors_add_up_too(rt: HostRuntime) -> Result<(), Fail> {
+fn values_of_other_kinds_add_up_too(rt: HostRuntime) -> Result<(), Fail> {
     let alloc = rt.alloc();
-    let fixed = Register::Fixed([Fx(i64::MAX), Fx(1), Fx(-2)].to_vec(alloc)?);
-    match added(&rt, alloc, Leading, &fixed, &[7; 3])? {
-        Register::Fixed(sums) => {
-            assert_eq!(rt;
-                sums.as_slice(),
-                [Fx(i64::MAX), Fx(i64::MAX), Fx(i64::MAX - 1)].as_slice()
-            )
-        }
-        _ => return Err("another kind".into()),
-    }
-    let at = |x, y, z| V3 {
-        x: Fx(x),
-        y: Fx(y),
-        z: Fx(z),
-    };
-    let vectors = Register::Vector([at(1, 2, 3), at(10, 20, 30), at(5, 0, -9)].to_vec(alloc)?);
-    match added(&rt, alloc, Total, &vectors, &[1, 2, 1])? {
-        Register::Vector(sums) => {
-            assert_eq!(rt;
-                sums.as_slice(),
-                [at(6, 2, -6), at(10, 20, 30), at(6, 2, -6)].as_slice()
-            )
-        }
-        _ => return Err("another kind".into()),
-    }
-    Ok(())
+    let most = i64::MAX;
+    let numbers = fixed(alloc, &[most, 1, -2])?;
+    let want = fixed(alloc, &[most, most, most - 1])?;
+    compare(&rt, alloc, (Leading, numbers, &[7; 3]), want)?;
+    let directions = vectors(alloc, &[(1, 2, 3), (10, 20, 30), (5, 0, -9)])?;
+    let want = vectors(alloc, &[(6, 2, -6), (10, 20, 30), (6, 2, -6)])?;
+    compare(&rt, alloc, (Total, directions, &[1, 2, 1]), want)?;
+    let want = truths(alloc, &[false, false])?;
+    compare(
+        &rt,
+        alloc,
+        (Total, truths(alloc, &[true, true])?, &[0, 0]),
+        want,
+    )
 }
 
-#[test]
-fn truths_add_up_to_nothing(rt: HostRuntime) -> Result<(), Fail> {
-    let truths = Register::Truth([true, true].to_vec(rt.alloc())?);
-    match added(&rt, rt.alloc(), Total, &truths, &[0, 0])? {
-        Register::Truth(sums) => assert_eq!(rt; sums.as_slice(), [false, false].as_slice()),
-        _ => return Err("another kind".into()),
-    }
-    Ok(())
-}
-
-/// The values of a register on another place of the sample.
-fn brought(
+/// Compares the values of a register on another place of the sample with those that are wanted.
+fn compare_brought(
     rt: &impl Abort,
     alloc: Global,
-    values: Register,
-    from: Place,
-    to: Place,
-) -> Result<Register, Fail> {
+    (from, values): (Place, Register),
+    (to, want): (Place, Register),
+) -> Result<(), Fail> {
     let mesh = sample(alloc)?;
     let topology = mesh.topology();
     assert_eq!(rt; len(&values), count_on(&topology, from));
-    Ok(bring(alloc, values, from, to, &topology)?)
+    let brought = bring(alloc, values, from, to, &topology)?;
+    assert!(rt; is_same(&brought, &want));
+    Ok(())
 }
 
 #[test]
 fn registers_are_brought_to_another_place(rt: HostRuntime) -> Result<(), Fail> {
     let alloc = rt.alloc();
     let (y, n) = (true, false);
-    let integers = Register::Int([1, 2, 4, -1, 0, 9].to_vec(alloc)?);
-    match brought(&rt, alloc, integers, Point, Face)? {
-        Register::Int(means) => assert_eq!(rt; means.as_slice(), [2, 1].as_slice()),
-        _ => return Err("another kind".into()),
-    }
-    let truths = Register::Truth([y, n, n, n, n, y].to_vec(alloc)?);
-    match brought(&rt, alloc, truths, Edge, Point)? {
-        Register::Truth(truths) => {
-            assert_eq!(rt; truths.as_slice(), [y, y, y, n, y, n].as_slice())
-        }
-        _ => return Err("another kind".into()),
-    }
-    let fixed = Register::Fixed([Fx(1), Fx(2), Fx(4), Fx(-1), Fx(0), Fx(9)].to_vec(alloc)?);
-    match brought(&rt, alloc, fixed, Point, Face)? {
-        Register::Fixed(means) => assert_eq!(rt; means.as_slice(), [Fx(2), Fx(1)].as_slice()),
-        _ => return Err("another kind".into()),
-    }
-    let vectors = Register::Vector([V3::ZERO; 6].to_vec(alloc)?);
-    match brought(&rt, alloc, vectors, Point, Face)? {
-        Register::Vector(means) => assert_eq!(rt; means.as_slice(), [V3::ZERO; 2].as_slice()),
-        _ => return Err("another kind".into()),
-    }
-    Ok(())
+    let here = (Point, integers(alloc, &[1, 2, 4, -1, 0, 9])?);
+    compare_brought(&rt, alloc, here, (Face, integers(alloc, &[2, 1])?))?;
+    let here = (Edge, truths(alloc, &[y, n, n, n, n, y])?);
+    let there = (Point, truths(alloc, &[y, y, y, n, y, n])?);
+    compare_brought(&rt, alloc, here, there)?;
+    let here = (Point, fixed(alloc, &[1, 2, 4, -1, 0, 9])?);
+    compare_brought(&rt, alloc, here, (Face, fixed(alloc, &[2, 1])?))?;
+    let here = (Point, vectors(alloc, &[(0, 3, 0); 6])?);
+    compare_brought(&rt, alloc, here, (Face, vectors(alloc, &[(0, 3, 0); 2])?))
 }

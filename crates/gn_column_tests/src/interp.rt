@@ -50,54 +50,40 @@ fn compare(
     (from, values): (Place, &[i32]),
     (to, want): (Place, &[i32]),
 ) -> Result<(), Fail> {
-    match adapted(rt, alloc, &integers(alloc, values)?, from, to)? {
-        Column::Int(means) => assert_eq!(rt; means.items(), want),
-        _ => return Err("another kind".into()),
-    }
+    let is_wanted = match adapted(rt, alloc, &integers(alloc, values)?, from, to)? {
+        Column::Int(means) => means.items() == want,
+        _ => false,
+    };
+    assert!(rt; is_wanted);
     Ok(())
 }
 
 #[test]
 fn integers_become_means_that_are_rounded_down(rt: HostRuntime) -> Result<(), Fail> {
-    let alloc = rt.alloc();
-    let points = [1, 2, 4, -1, 0, 9];
-    compare(&rt, alloc, (Point, &points), (Edge, &[1, 3, 2, 0, -1, 2]))?;
-    compare(&rt, alloc, (Point, &points), (Face, &[2, 1]))?;
-    compare(
-        &rt,
-        alloc,
-        (Point, &points),
-        (Corner, &[1, 2, 4, 2, -1, 0, 4]),
-    )?;
-    let edges = [1, 2, 4, -1, 0, 3];
-    compare(&rt, alloc, (Edge, &edges), (Point, &[2, 0, 3, -1, 1, 0]))?;
-    compare(&rt, alloc, (Edge, &edges), (Face, &[2, 1]))?;
-    compare(
-        &rt,
-        alloc,
-        (Edge, &edges),
-        (Corner, &[2, 1, 3, 0, -1, 1, 2]),
-    )?;
-    compare(&rt, alloc, (Edge, &edges), (Edge, &edges))?;
-    let faces = [3, -4];
-    compare(&rt, alloc, (Face, &faces), (Point, &[3, -1, -1, -4, -4, 0]))?;
-    compare(&rt, alloc, (Face, &faces), (Edge, &[3, -1, 3, -4, -4, -4]))?;
-    compare(
-        &rt,
-        alloc,
-        (Face, &faces),
-        (Corner, &[3, 3, 3, -4, -4, -4, -4]),
-    )?;
-    let corners = [1, 2, 4, 5, -1, 0, 3];
-    compare(
-        &rt,
-        alloc,
-        (Corner, &corners),
-        (Point, &[1, 3, 3, -1, 0, 0]),
-    )?;
-    compare(&rt, alloc, (Corner, &corners), (Edge, &[1, 3, 2, 2, -1, 1]))?;
-    compare(&rt, alloc, (Corner, &corners), (Face, &[2, 1]))?;
-    compare(&rt, alloc, (Point, &[i32::MAX; 6]), (Face, &[i32::MAX; 2]))
+    let points: &[i32] = &[1, 2, 4, -1, 0, 9];
+    let edges: &[i32] = &[1, 2, 4, -1, 0, 3];
+    let faces: &[i32] = &[3, -4];
+    let corners: &[i32] = &[1, 2, 4, 5, -1, 0, 3];
+    let rows: [(Place, &[i32], Place, &[i32]); 14] = [
+        (Point, points, Edge, &[1, 3, 2, 0, -1, 2]),
+        (Point, points, Face, &[2, 1]),
+        (Point, points, Corner, &[1, 2, 4, 2, -1, 0, 4]),
+        (Edge, edges, Point, &[2, 0, 3, -1, 1, 0]),
+        (Edge, edges, Face, &[2, 1]),
+        (Edge, edges, Corner, &[2, 1, 3, 0, -1, 1, 2]),
+        (Edge, edges, Edge, edges),
+        (Face, faces, Point, &[3, -1, -1, -4, -4, 0]),
+        (Face, faces, Edge, &[3, -1, 3, -4, -4, -4]),
+        (Face, faces, Corner, &[3, 3, 3, -4, -4, -4, -4]),
+        (Corner, corners, Point, &[1, 3, 3, -1, 0, 0]),
+        (Corner, corners, Edge, &[1, 3, 2, 2, -1, 1]),
+        (Corner, corners, Face, &[2, 1]),
+        (Point, &[i32::MAX; 6], Face, &[i32::MAX; 2]),
+    ];
+    for (from, values, to, want) in rows {
+        compare(&rt, rt.alloc(), (from, values), (to, want))?;
+    }
+    Ok(())
 }
 
 #[test]
@@ -114,10 +100,11 @@ fn one_truth_suffices_on_three_pairs_of_places(rt: HostRuntime) -> Result<(), Fa
         (Corner, &[y, y, n, y, y, y, y], Face, &[n, y]),
     ];
     for (from, values, to, want) in rows {
-        match adapted(&rt, rt.alloc(), &truths(rt.alloc(), values)?, from, to)? {
-            Column::Truth(truths) => assert_eq!(rt; truths.items(), want),
-            _ => return Err("another kind".into()),
-        }
+        let is_wanted = match adapted(&rt, rt.alloc(), &truths(rt.alloc(), values)?, from, to)? {
+            Column::Truth(truths) => truths.items() == want,
+            _ => false,
+        };
+        assert!(rt; is_wanted);
     }
     Ok(())
 }
@@ -138,13 +125,12 @@ fn vectors_become_means_by_component(rt: HostRuntime) -> Result<(), Fail> {
         at(7, 7, 7),
     ];
     let column = Column::Vector(array::array_of(values.to_vec(rt.alloc())?)?);
-    match adapted(&rt, rt.alloc(), &column, Point, Face)? {
-        Column::Vector(means) => {
-            let quad = at(i64::MIN / 4 + 1, -2, 0);
-            assert_eq!(rt; means.items(), [at(3, 2, -1), quad].as_slice());
-        }
-        _ => return Err("another kind".into()),
-    }
+    let quad = at(i64::MIN / 4 + 1, -2, 0);
+    let is_wanted = match adapted(&rt, rt.alloc(), &column, Point, Face)? {
+        Column::Vector(means) => means.items() == [at(3, 2, -1), quad].as_slice(),
+        _ => false,
+    };
+    assert!(rt; is_wanted);
     Ok(())
 }
 
@@ -152,9 +138,10 @@ fn vectors_become_means_by_component(rt: HostRuntime) -> Result<(), Fail> {
 fn fixed_numbers_become_means_too(rt: HostRuntime) -> Result<(), Fail> {
     let values = [Fx(5), Fx(-2), Fx(0), Fx(1), Fx(1), Fx(1), Fx(1)];
     let column = Column::Fixed(array::array_of(values.to_vec(rt.alloc())?)?);
-    match adapted(&rt, rt.alloc(), &column, Corner, Face)? {
-        Column::Fixed(means) => assert_eq!(rt; means.items(), [Fx(1), Fx(1)].as_slice()),
-        _ => return Err("another kind".into()),
-    }
+    let is_wanted = match adapted(&rt, rt.alloc(), &column, Corner, Face)? {
+        Column::Fixed(means) => means.items() == [Fx(1), Fx(1)].as_slice(),
+        _ => false,
+    };
+    assert!(rt; is_wanted);
     Ok(())
 }
