@@ -1,4 +1,5 @@
-//! Tests of columns, of interpolation, of sums over groups and of geometry with columns, each by its public calls.
+//! Tests of columns, of interpolation, of sums over groups, of geometry with columns and of lines and
+//! cuboids, each by its public calls.
 //!
 //! They are in a crate of their own, since a crate with tests is proved once more for them. The crate promises
 //! nothing of its own.
@@ -14,3 +15,5 @@ mod elsewhere;
 mod geometry;
 #[cfg(test)]
 mod interp;
+#[cfg(test)]
+mod prim;
