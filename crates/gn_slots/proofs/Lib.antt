@@ -1,0 +1,3 @@
+pub mod Running
+pub mod Roots
+pub mod Reading
