@@ -1,13 +1,7 @@
 -- Rows of the definitions, worked by hand.
 use Rattle.std.proofs.Common.{◌≡◌, [], ◌∷◌, true, false, refl}
-use Rattle.std.specs.Prelude.{codes}
 use Rattle.gn_exec_laws.specs.Machine.{Take, Refuse}
-use Rattle.gn_exec_core.specs.declared.values.WarningText.TheVariants as text
-use Rattle.gn_exec_core.specs.Values.{text_of}
 use Rattle.gn_exec_core.specs.States.{refuses}
-
-a_long_file_is_named : text_of text.TooLong ≡ codes "too long"
-a_long_file_is_named = refl
 
 a_worker_refuses_for_itself : (refuses (Take 1 7 ∷ Refuse 2 ∷ []) 2 ≡ true) × (refuses (Take 1 7 ∷ Refuse 2 ∷ []) 1 ≡ false)
 a_worker_refuses_for_itself = (refl, refl)

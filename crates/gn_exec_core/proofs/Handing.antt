@@ -10,14 +10,14 @@ use Rattle.gn_uses.specs.declared.nodes.Choice.{Choice}
 use Rattle.gn_uses.specs.declared.nodes.Role.{Role}
 use Rattle.gn_uses.specs.Nodes as numbers
 use Rattle.gn_uses.specs.Uses.{Uses, IsExact, TakesFirst}
-use Rattle.gn_exec_core.specs.declared.values.Answer.{Answer}
+use Rattle.gn_nodes.specs.declared.values.Answer.{Answer}
 use Rattle.gn_exec_core.specs.declared.state.Happened.{Happened}
 use Rattle.gn_exec_core.specs.declared.state.Happened.TheVariants as happened
 use Rattle.gn_exec_core.specs.declared.jobs.Job.{Job}
 use Rattle.gn_exec_core.specs.States.{State, events_of, seen, any_refuses, HasFlags, job, now as now_of, IsReached}
 use Rattle.gn_exec_core.specs.Holds.{present}
 use Rattle.gn_exec_core.specs.Jobs.{IsJob, Holds}
-use Rattle.gn_exec_core.specs.Values.{answer_of}
+use Rattle.gn_nodes.specs.Values.{answer_of}
 use Rattle.gn_exec_core.proofs.Using.{at_node}
 use Rattle.gn_exec_core.proofs.Refusals.{events_counted}
 use Rattle.gn_exec_core.proofs.Taking.{seen_take, flags_taken, none_ready, ready, allowed, inputs_read, answer_read, reached_after, holds_after}

@@ -14,7 +14,8 @@ use Rattle.gn_uses.specs.declared.nodes.Role.TheVariants as role
 use Rattle.gn_uses.specs.Nodes as numbers
 use Rattle.gn_uses.specs.Nodes.{all_set, is_set_up}
 use Rattle.gn_uses.specs.Uses as uses
-use Rattle.gn_exec_core.specs.Holds.{present, choice_as, chosen_as, value_now, AreNumbered, HaveConditions, AreTaken}
+use Rattle.gn_nodes.specs.Calls.{choice_as, chosen_as}
+use Rattle.gn_exec_core.specs.Holds.{present, value_now, AreNumbered, HaveConditions, AreTaken}
 use Rattle.gn_exec_core.proofs.Using.{selected_map, at_node, link, task, sure_is, in_world, from_world, used_same, same_used}
 
 each_set : {A : Type 0} (f : A → Bool) (xs : List A) → all_set (map f xs) ≡ true → (x : A) → Has xs x → f x ≡ true

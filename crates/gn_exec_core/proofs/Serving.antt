@@ -17,13 +17,14 @@ use Rattle.gn_uses.specs.Nodes as numbers
 use Rattle.gn_uses.specs.Nodes.{with_answer}
 use Rattle.gn_uses.specs.Uses.{Uses, Changes}
 use Rattle.gn_uses.proofs.Lists.{same_number}
-use Rattle.gn_exec_core.specs.declared.values.Answer.{Answer}
-use Rattle.gn_exec_core.specs.declared.values.Answer.TheVariants.{Absent}
+use Rattle.gn_nodes.specs.declared.values.Answer.{Answer}
+use Rattle.gn_nodes.specs.declared.values.Answer.TheVariants.{Absent}
 use Rattle.gn_exec_core.specs.declared.state.Happened.{Happened}
 use Rattle.gn_exec_core.specs.declared.state.Happened.TheVariants as happened
-use Rattle.gn_exec_core.specs.Values.{answer_of}
+use Rattle.gn_nodes.specs.Values.{answer_of}
 use Rattle.gn_exec_core.specs.States.{State, event_of, events_of, outputs_in, seen, any_refuses, unset, HasFlags, job, now, IsReached}
-use Rattle.gn_exec_core.specs.Holds.{value_now, choice_as, chosen_as, AreNumbered, AreTaken}
+use Rattle.gn_nodes.specs.Calls.{choice_as, chosen_as}
+use Rattle.gn_exec_core.specs.Holds.{value_now, AreNumbered, AreTaken}
 use Rattle.gn_exec_core.specs.Jobs.{Holds}
 use Rattle.gn_exec_core.specs.Waits.{served_by, MayServe, Tallies}
 use Rattle.gn_exec_core.proofs.Refusals.{events_push, events_counted}

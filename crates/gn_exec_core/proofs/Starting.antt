@@ -18,8 +18,8 @@ use Rattle.gn_uses.specs.declared.nodes.Choice.{Choice as NumberChoice}
 use Rattle.gn_uses.specs.Nodes as numbers
 use Rattle.gn_uses.specs.Uses.{Uses}
 use Rattle.gn_uses.proofs.Reading.{has_index}
-use Rattle.gn_exec_core.specs.Calls.{MayBeFirst}
-use Rattle.gn_exec_core.specs.Holds.{place_of, input_of, present, choice_as, chosen_as, value_now, IsNumbered, AreNumbered, HaveConditions, AreTaken, AreKept}
+use Rattle.gn_nodes.specs.Calls.{MayBeFirst, choice_as, chosen_as}
+use Rattle.gn_exec_core.specs.Holds.{place_of, input_of, present, value_now, IsNumbered, AreNumbered, HaveConditions, AreTaken, AreKept}
 use Rattle.gn_exec_core.specs.Starts.{first_set, first_value, start_at, start_value, CanCarryAs, CanCarry, IsChosenBy, MayChoose, HasNumbers}
 use Rattle.gn_exec_core.proofs.Using.{all_has, before_there, at_node, link, task}
 

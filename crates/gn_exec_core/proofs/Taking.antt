@@ -13,10 +13,10 @@ use Rattle.gn_uses.specs.declared.nodes.Choice.{Choice}
 use Rattle.gn_uses.specs.declared.nodes.Role.{Role}
 use Rattle.gn_uses.specs.Nodes as numbers
 use Rattle.gn_uses.specs.Uses.{Uses, IsExact, TakesFirst}
-use Rattle.gn_exec_core.specs.declared.values.Answer.{Answer}
+use Rattle.gn_nodes.specs.declared.values.Answer.{Answer}
 use Rattle.gn_exec_core.specs.declared.state.Happened.{Happened}
 use Rattle.gn_exec_core.specs.declared.state.Happened.TheVariants as happened
-use Rattle.gn_exec_core.specs.Values.{answer_of}
+use Rattle.gn_nodes.specs.Values.{answer_of}
 use Rattle.gn_exec_core.specs.States.{State, events_of, outputs_in, seen, any_refuses, unset, HasFlags, job, now, IsReached}
 use Rattle.gn_exec_core.specs.Holds.{present, AreNumbered, AreTaken}
 use Rattle.gn_exec_core.specs.Jobs.{Holds}

@@ -17,7 +17,8 @@ use Rattle.gn_exec_laws.specs.Machine.{World, reads, condition_set, sure_as, sur
 use Rattle.gn_uses.specs.declared.outputs.Out.{Out as Place}
 use Rattle.gn_uses.specs.Nodes as numbers
 use Rattle.gn_uses.specs.Nodes.{Wanted}
-use Rattle.gn_exec_core.specs.Holds.{place_of, input_of, present, choice_as, AreNumbered}
+use Rattle.gn_nodes.specs.Calls.{choice_as}
+use Rattle.gn_exec_core.specs.Holds.{place_of, input_of, present, AreNumbered}
 
 -- ---- lists
 

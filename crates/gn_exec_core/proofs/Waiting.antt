@@ -15,7 +15,7 @@ use Rattle.gn_uses.specs.Nodes as numbers
 use Rattle.gn_uses.specs.Sets.{has}
 use Rattle.gn_uses.specs.Uses.{Uses, IsExact}
 use Rattle.gn_uses.proofs.Lists.{is_member, member_is}
-use Rattle.gn_exec_core.specs.declared.values.Answer.{Answer}
+use Rattle.gn_nodes.specs.declared.values.Answer.{Answer}
 use Rattle.gn_exec_core.specs.States.{State, job, now, IsReached}
 use Rattle.gn_exec_core.specs.Jobs.{Holds}
 use Rattle.gn_pending.specs.Flags.{AreFlagged, IsFlagged, IsFirstOf}

@@ -5,13 +5,14 @@ use Rattle.gn_lazy.specs.declared.graph.Origin.{Origin}
 use Rattle.gn_lazy.specs.declared.graph.Origin.TheVariants.{Input, Constant, Out}
 use Rattle.gn_lazy.specs.declared.graph.Link.{Link as GraphLink}
 use Rattle.gn_lazy.specs.declared.graph.GraphNode.{GraphNode}
-use Rattle.gn_node_set.specs.Meanings.{Has, Link, Node, Role, Switch, Choice, no_case, Meanings}
+use Rattle.gn_node_set.specs.Meanings.{Has, Link, Node, Switch, Meanings}
 use Rattle.gn_node_set.specs.Paths.{Path}
 use Rattle.gn_exec_laws.specs.Graphs.{choice_of}
 use Rattle.gn_exec_laws.specs.Tasks.{node_of}
 use Rattle.gn_exec_laws.specs.Machine.{Event, Take, World, is_set, reads, condition_set}
 use Rattle.gn_uses.specs.declared.outputs.Out.{Out as Place}
 use Rattle.gn_uses.specs.Nodes as numbers
+use Rattle.gn_nodes.specs.Calls.{choice_as, chosen_as}
 
 -- the output that an origin names
 abbrev pub place_of : Origin → Option Place
@@ -27,15 +28,6 @@ abbrev pub present : {A : Type 0} → List (Option A) → List A
 present [] = []
 present (None ∷ xs) = present xs
 present (Some x ∷ xs) = x ∷ present xs
-
--- what a switch has chosen by now, and whether it has
-abbrev pub choice_as : Role → Bool → Choice → Choice
-choice_as Switch true choice = choice
-choice_as _ _ choice = no_case
-
-abbrev pub chosen_as : Role → Bool → Bool
-chosen_as Switch set = set
-chosen_as _ set = false
 
 -- the taken nodes are those of the events
 abbrev pub AreTaken : List ℕ → List Event → Type 0

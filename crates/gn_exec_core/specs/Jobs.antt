@@ -12,11 +12,11 @@ use Rattle.gn_uses.specs.declared.nodes.Role.TheVariants.{Plain, Switch, File}
 use Rattle.gn_uses.specs.declared.nodes.Choice.{Choice}
 use Rattle.gn_uses.specs.declared.nodes.Choice.TheVariants as choice
 use Rattle.gn_uses.specs.Uses.{Uses}
-use Rattle.gn_exec_core.specs.declared.values.Answer.{Answer}
+use Rattle.gn_nodes.specs.declared.values.Answer.{Answer}
 use Rattle.gn_exec_core.specs.declared.jobs.Job.{Job}
 use Rattle.gn_exec_core.specs.declared.jobs.Taken.{Taken}
 use Rattle.gn_exec_core.specs.declared.jobs.Taken.TheVariants as taken
-use Rattle.gn_exec_core.specs.Values.{answer_of}
+use Rattle.gn_nodes.specs.Values.{answer_of}
 use Rattle.gn_exec_core.specs.States.{State, any_refuses, job, now}
 use Rattle.gn_exec_core.specs.Holds.{present, AreNumbered, HaveConditions, AreTaken, AreKept}
 

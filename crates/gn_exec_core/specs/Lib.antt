@@ -1,5 +1,3 @@
-pub mod Values
-pub mod Calls
 pub mod States
 pub mod Holds
 pub mod Jobs

@@ -11,9 +11,9 @@ use Rattle.gn_uses.specs.declared.nodes.Role.{Role}
 use Rattle.gn_uses.specs.declared.nodes.Choice.{Choice}
 use Rattle.gn_uses.specs.declared.outputs.Out.{Out as Place}
 use Rattle.gn_uses.specs.Nodes as numbers
-use Rattle.gn_exec_core.specs.Calls.{MayBeFirst}
+use Rattle.gn_nodes.specs.Calls.{MayBeFirst, choice_as, chosen_as}
 use Rattle.gn_exec_core.specs.States.{State}
-use Rattle.gn_exec_core.specs.Holds.{input_of, choice_as, chosen_as}
+use Rattle.gn_exec_core.specs.Holds.{input_of}
 
 -- no event yet
 abbrev pub begun : {K V : Type 0} → Nodes K → List V → State K V

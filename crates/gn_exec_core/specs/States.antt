@@ -8,7 +8,7 @@ use Rattle.gn_exec_laws.specs.Fits.{CanStart}
 use Rattle.gn_exec_laws.specs.Machine.{Event, Take, Finish, Serve, Refuse, World, world, IsRun}
 use Rattle.gn_exec_core.specs.declared.state.Happened.{Happened}
 use Rattle.gn_exec_core.specs.declared.state.Happened.TheVariants as happened
-use Rattle.gn_exec_core.specs.Values.{answer_of}
+use Rattle.gn_nodes.specs.Values.{answer_of}
 
 -- the lists begin with what came last
 pub record State (K V : Type 0) : Type 0 where

@@ -5,10 +5,9 @@ ghost use Rattle.gn_exec_core.specs.Holds.{present};
 ghost use Rattle.gn_exec_core.specs.Jobs as jobs;
 ghost use Rattle.gn_exec_core.specs.Jobs.{lists_of, IsBlank};
 
-use crate::node_set::NodeSet;
-use crate::values::Answer;
 use gn_lazy::{GraphNode, Path};
 use gn_memory::Memory;
+use gn_nodes::{Answer, NodeSet};
 use gn_uses::{Choice, Role};
 use std::alloc::Global;
 use std::mem;

@@ -1,26 +1,20 @@
-//! The core of the executor: what it asks of a set of nodes, and its state between events.
+//! The state of the executor between events.
 //!
-//! `NodeSet` is a trait of the code that runs nodes, with the meanings of its kinds and values for
-//! contracts. Each call promises that meaning: role, file, choice, opening, row and conversion; a
-//! second value that is the same; one run noted for each run; and no copy noted where nothing is
-//! shared. `handed` gives what a link carries, while the value stays. `LawsOf` hands the meanings to the
-//! laws of the executor's machine. `ExecState` is the state as contracts see it: the graph and the
-//! values that it began with, and the events since. `new` begins one, `take` hands out a node that is
-//! ready with the values that its run gets, `serve` hands an import that waits its answer, and `refuse`
-//! ends what a worker takes. `waiting` gives the import that is to be answered next; `busy`, `finished`
-//! and `refused` say how far it is, and `node` gives a node's path and kind. The crate stands on
-//! `gn_exec_laws`, on `gn_uses`, whose roles and choices these are, on the flags of `gn_pending`, on
+//! `ExecState` is the state as contracts see it: the graph and the values that it began with, and the
+//! events since. `new` begins one, `take` hands out a node that is ready with the values that its run
+//! gets, `serve` hands an import that waits its answer, and `refuse` ends what a worker takes. `waiting`
+//! gives the import that is to be answered next; `busy`, `finished` and `refused` say how far it is, and
+//! `node` gives a node's path and kind. The crate stands on the set of nodes of `gn_nodes`, on the machine
+//! of `gn_exec_laws`, on `gn_uses`, which knows the nodes by their numbers, on the flags of `gn_pending`, on
 //! `gn_lazy`, `gn_node_set`, `gn_shared` and `gn_memory`.
 #![tactic(auto)]
 
 pub mod jobs;
-pub mod node_set;
 mod start;
 pub mod state;
-pub mod values;
 
-pub use gn_uses::{Choice, Role};
+pub use gn_nodes::{
+    Answer, Choice, Done, LawsOf, NodeSet, Opened, Role, Warning, WarningText, chosen, handed,
+};
 pub use jobs::{Job, Taken};
-pub use node_set::{LawsOf, NodeSet, handed};
 pub use state::ExecState;
-pub use values::{Answer, Done, Opened, Warning, WarningText};

@@ -8,9 +8,9 @@ ghost use Rattle.gn_exec_core.specs.Holds.{input_of, place_of as place, present}
 ghost use Rattle.gn_exec_core.specs.Jobs.{lists_of};
 ghost use Rattle.gn_exec_core.specs.Starts.{start_value, CanCarry, IsChosenBy, MayChoose, HasNumbers, with_chosen, with_roots, AreWhole};
 
-use crate::node_set::{NodeSet, handed};
 use gn_lazy::{Graph, GraphNode, Link, Origin};
 use gn_memory::Memory;
+use gn_nodes::{NodeSet, chosen, handed};
 use gn_shared::Meter;
 use gn_uses::{Choice, Out, Role, Uses};
 use std::alloc::Global;
@@ -86,11 +86,8 @@ fn choice_of<N: NodeSet>(
     requires { MayChoose N.meanings (N.kind_of kind.now) (map (option_map N.content) row.now) }
     ensures { IfOk result (λ choice. IsChosenBy N.meanings (N.kind_of kind.now) (map (option_map N.content) row.now) choice) }
 {
-    if nodes.role(kind) != Role::Switch {
-        return Ok(None);
-    }
     match row.first() {
-        Some(Some(value)) => Ok(Some(nodes.choose(kind, value)?)),
+        Some(Some(value)) => chosen(nodes, kind, value),
         _ => Ok(None),
     }
 }

@@ -7,15 +7,14 @@ ghost use Rattle.gn_exec_laws.specs.Tasks.{task_of};
 ghost use Rattle.gn_exec_core.specs.Holds.{HaveConditions};
 ghost use Rattle.gn_exec_core.specs.Jobs.{Takes};
 ghost use Rattle.gn_exec_core.specs.Starts.{begun};
-ghost use Rattle.gn_exec_core.specs.Values.{answer_of};
+ghost use Rattle.gn_nodes.specs.Values.{answer_of};
 ghost use Rattle.gn_exec_core.specs.Waits.{IsBusy, AreFinished, NodeIs, WaitsFirst, MayServe, served_by};
 
 use crate::jobs::{Taken, answer_out, blank, choice_at, inputs_at, read_values, row_out};
-use crate::node_set::NodeSet;
 use crate::start::{choices_of, imports_of, numbered, rows_of};
-use crate::values::Answer;
 use gn_lazy::{Graph, GraphNode};
 use gn_memory::Memory;
+use gn_nodes::{Answer, NodeSet};
 use gn_pending::{are_flagged, empty_slots, first_flagged};
 use gn_shared::Meter;
 use gn_uses::{Choice, Uses};

@@ -2,194 +2,195 @@ use gn_uses::{Choice, Out, Role, Uses};
 use std::alloc::Global;
 use std::test::Fail;
 
+// One call on nodes with their uses, or what they must show.
+#[derive(Clone, Copy)]
+enum Step {
+    // A node with one output, whose inputs come from the first outputs of these nodes, or are values.
+    Add(Role, &'static [Option<usize>]),
+    Want(usize),
+    Fill(usize, usize),
+    Choose(usize, Choice),
+    // A zone, and the node that its result comes from.
+    Open(usize, usize),
+    Answer(usize),
+    Takes(Option<usize>),
+    // The used nodes, and the ready ones.
+    Shows(&'static [usize], &'static [usize]),
+}
+
 fn out(node: usize) -> Out {
     Out { node, output: 0 }
 }
 
-// Adds a node with one output, whose inputs come from the first outputs of these nodes, or are values.
-fn add(alloc: Global, uses: &mut Uses, role: Role, inputs: &[Option<usize>]) -> Result<(), Fail> {
+fn add(alloc: Global, uses: &mut Uses, role: Role, inputs: &[Option<usize>]) -> Option<()> {
     let mut links = Vec::new(alloc);
     for input in inputs {
-        links.push(match input {
-            Some(node) => Some(out(*node)),
-            None => None,
-        })?;
+        links.push(input.map(out)).ok()?;
     }
     if !uses.are_there(&links) {
-        return Err(Fail::new("inputs"));
+        return None;
     }
-    if uses.add(role, links, 1).is_err() {
-        return Err(Fail::new("a node"));
-    }
-    Ok(())
+    uses.add(role, links, 1).ok()
 }
 
-fn want(uses: &mut Uses, node: usize) -> Result<(), Fail> {
-    let root = out(node);
-    if !uses.has_output(root) {
-        return Err(Fail::new("an output"));
+fn want(uses: &mut Uses, node: usize) -> Option<()> {
+    if !uses.has_output(out(node)) {
+        return None;
     }
-    if uses.want(root).is_err() {
-        return Err(Fail::new("a root"));
-    }
-    Ok(())
+    uses.want(out(node)).ok()
 }
 
-fn fill(uses: &mut Uses, node: usize, input: usize) -> Result<(), Fail> {
+fn fill(uses: &mut Uses, node: usize, input: usize) -> Option<()> {
     if !uses.has_input(node, input) {
-        return Err(Fail::new("an input"));
+        return None;
     }
     uses.fill(node, input);
-    Ok(())
+    Some(())
 }
 
-fn choose(uses: &mut Uses, node: usize, choice: Choice) -> Result<(), Fail> {
+fn choose(uses: &mut Uses, node: usize, choice: Choice) -> Option<()> {
     if !uses.is_unchosen(node) {
-        return Err(Fail::new("a switch"));
+        return None;
     }
     uses.choose(node, choice);
-    Ok(())
+    Some(())
 }
 
-fn open(alloc: Global, uses: &mut Uses, zone: usize, origin: usize) -> Result<(), Fail> {
+fn open(alloc: Global, uses: &mut Uses, zone: usize, origin: usize) -> Option<()> {
     let mut results = Vec::new(alloc);
-    results.push(Some(out(origin)))?;
-    if !uses.is_shut(zone) {
-        return Err(Fail::new("a zone"));
-    }
-    if !uses.are_there(&results) {
-        return Err(Fail::new("results"));
+    results.push(Some(out(origin))).ok()?;
+    if !uses.is_shut(zone) || !uses.are_there(&results) {
+        return None;
     }
     uses.open(zone, results);
-    Ok(())
+    Some(())
 }
 
-fn answer(uses: &mut Uses, node: usize) -> Result<(), Fail> {
+fn answer(uses: &mut Uses, node: usize) -> Option<()> {
     if uses.len() <= node {
-        return Err(Fail::new("an import"));
+        return None;
     }
     uses.answer(node);
-    Ok(())
+    Some(())
 }
 
-// The used nodes and the ready ones are these.
-fn shows(uses: &Uses, used: &[usize], ready: &[usize]) -> Result<(), Fail> {
-    if uses.used() != used {
-        return Err(Fail::new("other nodes are used"));
-    }
-    if uses.ready() != ready {
-        return Err(Fail::new("other nodes are ready"));
-    }
-    Ok(())
+fn when(holds: bool) -> Option<()> {
+    if holds { Some(()) } else { None }
 }
 
-fn take(uses: &mut Uses, node: Option<usize>) -> Result<(), Fail> {
-    if uses.take() != node {
-        return Err(Fail::new("another node is taken"));
+// Takes one step. It is `None` where it can't be taken, or something else shows.
+fn take_step(alloc: Global, uses: &mut Uses, step: Step) -> Option<()> {
+    match step {
+        Step::Add(role, inputs) => add(alloc, uses, role, inputs),
+        Step::Want(node) => want(uses, node),
+        Step::Fill(node, input) => fill(uses, node, input),
+        Step::Choose(node, choice) => choose(uses, node, choice),
+        Step::Open(zone, origin) => open(alloc, uses, zone, origin),
+        Step::Answer(node) => answer(uses, node),
+        Step::Takes(node) => when(uses.take() == node),
+        Step::Shows(used, ready) => when(uses.used() == used && uses.ready() == ready),
     }
-    Ok(())
 }
 
-#[test]
-fn a_chain_becomes_ready_from_its_start(rt: HostRuntime) -> Result<(), Fail> {
-    let alloc = rt.alloc();
+// All steps can be taken, and show what they must.
+fn all(alloc: Global, steps: &[Step]) -> bool {
     let mut uses = Uses::new(alloc);
-    add(alloc, &mut uses, Role::Plain, &[])?;
-    add(alloc, &mut uses, Role::Plain, &[Some(0)])?;
-    add(alloc, &mut uses, Role::Plain, &[Some(1), None])?;
-    shows(&uses, &[], &[])?;
-    want(&mut uses, 2)?;
-    shows(&uses, &[2, 1, 0], &[0])?;
-    take(&mut uses, Some(0))?;
-    take(&mut uses, None)?;
-    fill(&mut uses, 1, 0)?;
-    shows(&uses, &[2, 1, 0], &[1])?;
-    fill(&mut uses, 2, 0)?;
-    shows(&uses, &[2, 1, 0], &[1, 2])
+    for one in steps {
+        if take_step(alloc, &mut uses, *one).is_none() {
+            return false;
+        }
+    }
+    true
 }
 
-// Three nodes, and a switch whose condition is the first of them.
-fn switch(alloc: Global) -> Result<Uses, Fail> {
-    let mut uses = Uses::new(alloc);
-    for _ in 0..3 {
-        add(alloc, &mut uses, Role::Plain, &[])?;
-    }
-    add(alloc, &mut uses, Role::Switch, &[Some(0), Some(1), Some(2)])?;
-    Ok(uses)
-}
+// A chain becomes ready from its start.
+const CHAIN: [Step; 10] = [
+    Step::Add(Role::Plain, &[]),
+    Step::Add(Role::Plain, &[Some(0)]),
+    Step::Add(Role::Plain, &[Some(1), None]),
+    Step::Shows(&[], &[]),
+    Step::Want(2),
+    Step::Shows(&[2, 1, 0], &[0]),
+    Step::Takes(Some(0)),
+    Step::Takes(None),
+    Step::Fill(1, 0),
+    Step::Shows(&[2, 1, 0], &[1]),
+];
+
+// A switch wants its condition and then its choice.
+const SWITCH: [Step; 13] = [
+    Step::Add(Role::Plain, &[]),
+    Step::Add(Role::Plain, &[]),
+    Step::Add(Role::Plain, &[]),
+    Step::Add(Role::Switch, &[Some(0), Some(1), Some(2)]),
+    Step::Want(3),
+    Step::Shows(&[3, 0], &[0]),
+    Step::Fill(3, 0),
+    Step::Shows(&[3, 0], &[0]),
+    Step::Choose(3, Choice::One { case: 1 }),
+    Step::Fill(3, 1),
+    Step::Shows(&[3, 0, 2], &[0, 2]),
+    Step::Fill(3, 2),
+    Step::Shows(&[3, 0, 2], &[0, 2, 3]),
+];
+
+// A switch that chose before it was wanted: its first case, one that it has not, all, or none.
+const CHOSEN: [Step; 13] = [
+    Step::Add(Role::Plain, &[]),
+    Step::Add(Role::Switch, &[Some(0), Some(0), None]),
+    Step::Choose(1, Choice::One { case: 2 }),
+    Step::Add(Role::Plain, &[]),
+    Step::Add(Role::Switch, &[None, Some(2), Some(0)]),
+    Step::Choose(3, Choice::Zero),
+    Step::Add(Role::Switch, &[None, Some(2), Some(0)]),
+    Step::Choose(4, Choice::All),
+    Step::Shows(&[], &[]),
+    Step::Want(3),
+    Step::Shows(&[3], &[3]),
+    Step::Want(4),
+    Step::Shows(&[3, 4, 2, 0], &[3, 2, 0]),
+];
+
+// A zone that is opened wants its result, and a node of its turn the zone's item.
+const OPENED: [Step; 8] = [
+    Step::Add(Role::Plain, &[]),
+    Step::Add(Role::Zone, &[None, Some(0)]),
+    Step::Add(Role::Plain, &[Some(1)]),
+    Step::Add(Role::Plain, &[Some(0)]),
+    Step::Want(2),
+    Step::Shows(&[2, 1], &[1]),
+    Step::Open(1, 3),
+    Step::Shows(&[2, 1, 3, 0], &[1, 0]),
+];
+
+// The same zone, opened before it is wanted.
+const OPENED_FIRST: [Step; 8] = [
+    Step::Add(Role::Plain, &[]),
+    Step::Add(Role::Zone, &[None, Some(0)]),
+    Step::Add(Role::Plain, &[Some(1)]),
+    Step::Add(Role::Plain, &[Some(0)]),
+    Step::Open(1, 3),
+    Step::Shows(&[], &[]),
+    Step::Want(2),
+    Step::Shows(&[2, 1, 3, 0], &[1, 0]),
+];
+
+// An import is ready with its answer.
+const IMPORT: [Step; 5] = [
+    Step::Add(Role::File, &[]),
+    Step::Want(0),
+    Step::Shows(&[0], &[]),
+    Step::Answer(0),
+    Step::Shows(&[0], &[0]),
+];
 
 #[test]
-fn a_switch_wants_its_condition_and_then_its_choice(rt: HostRuntime) -> Result<(), Fail> {
-    let mut uses = switch(rt.alloc())?;
-    want(&mut uses, 3)?;
-    shows(&uses, &[3, 0], &[0])?;
-    fill(&mut uses, 3, 0)?;
-    shows(&uses, &[3, 0], &[0])?;
-    choose(&mut uses, 3, Choice::One { case: 1 })?;
-    fill(&mut uses, 3, 1)?;
-    shows(&uses, &[3, 0, 2], &[0, 2])?;
-    fill(&mut uses, 3, 2)?;
-    shows(&uses, &[3, 0, 2], &[0, 2, 3])
-}
-
-// What is used where the choice comes before the mark.
-fn chosen_first(alloc: Global, choice: Choice, used: &[usize]) -> Result<(), Fail> {
-    let mut uses = switch(alloc)?;
-    choose(&mut uses, 3, choice)?;
-    shows(&uses, &[], &[])?;
-    want(&mut uses, 3)?;
-    if uses.used() != used {
-        return Err(Fail::new("other nodes are used"));
-    }
+fn what_is_wanted_becomes_ready(rt: HostRuntime) -> Result<(), Fail> {
+    assert!(rt; all(rt.alloc(), &CHAIN));
+    assert!(rt; all(rt.alloc(), &SWITCH));
+    assert!(rt; all(rt.alloc(), &CHOSEN));
+    assert!(rt; all(rt.alloc(), &OPENED));
+    assert!(rt; all(rt.alloc(), &OPENED_FIRST));
+    assert!(rt; all(rt.alloc(), &IMPORT));
     Ok(())
-}
-
-#[test]
-fn a_choice_may_come_before_the_mark(rt: HostRuntime) -> Result<(), Fail> {
-    chosen_first(rt.alloc(), Choice::One { case: 0 }, &[3, 0, 1])?;
-    chosen_first(rt.alloc(), Choice::One { case: 2 }, &[3, 0])?;
-    chosen_first(rt.alloc(), Choice::All, &[3, 0, 1, 2])?;
-    chosen_first(rt.alloc(), Choice::Zero, &[3, 0])
-}
-
-// A node, a zone with a count that is a value and the node as its item, a reader of the zone, and a node
-// of the zone's turn that reads the item.
-fn zone(alloc: Global) -> Result<Uses, Fail> {
-    let mut uses = Uses::new(alloc);
-    add(alloc, &mut uses, Role::Plain, &[])?;
-    add(alloc, &mut uses, Role::Zone, &[None, Some(0)])?;
-    add(alloc, &mut uses, Role::Plain, &[Some(1)])?;
-    add(alloc, &mut uses, Role::Plain, &[Some(0)])?;
-    Ok(uses)
-}
-
-#[test]
-fn an_opened_zone_wants_its_result(rt: HostRuntime) -> Result<(), Fail> {
-    let alloc = rt.alloc();
-    let mut uses = zone(alloc)?;
-    want(&mut uses, 2)?;
-    shows(&uses, &[2, 1], &[1])?;
-    open(alloc, &mut uses, 1, 3)?;
-    shows(&uses, &[2, 1, 3, 0], &[1, 0])
-}
-
-#[test]
-fn a_zone_may_be_opened_before_the_mark(rt: HostRuntime) -> Result<(), Fail> {
-    let alloc = rt.alloc();
-    let mut uses = zone(alloc)?;
-    open(alloc, &mut uses, 1, 3)?;
-    shows(&uses, &[], &[])?;
-    want(&mut uses, 2)?;
-    shows(&uses, &[2, 1, 3, 0], &[1, 0])
-}
-
-#[test]
-fn an_import_is_ready_with_its_answer(rt: HostRuntime) -> Result<(), Fail> {
-    let alloc = rt.alloc();
-    let mut uses = Uses::new(alloc);
-    add(alloc, &mut uses, Role::File, &[])?;
-    want(&mut uses, 0)?;
-    shows(&uses, &[0], &[])?;
-    answer(&mut uses, 0)?;
-    shows(&uses, &[0], &[0])
 }

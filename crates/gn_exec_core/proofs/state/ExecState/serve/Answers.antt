@@ -3,7 +3,7 @@ use Rattle.std.specs.Vec.{vec_len, vec_capacity}
 use Rattle.std.proofs.lemmas.List.{get_or-set_same, get_or-set_other, length-set, length-map}
 use Rattle.gn_exec_laws.specs.Machine.{Serve}
 use Rattle.gn_exec_core.specs.declared.state.Happened.TheVariants as happened
-use Rattle.gn_exec_core.specs.Values.{answer_of}
+use Rattle.gn_nodes.specs.Values.{answer_of}
 use Rattle.gn_exec_core.specs.Jobs.{lists_of}
 use Rattle.gn_exec_core.proofs.Serving.{serve_below, answer_made, seen_answer}
 use Rattle.gn_exec_core.proofs.state.ExecState.serve.Goals as goal

@@ -1,5 +1,5 @@
 -- What the calls of a set of nodes promise.
-use Rattle.std.specs.Prelude.{◌≡◌, ℕ, ◌+◌, ◌-◌, ◌<◌, ◌≤◌, List, ◌∷◌, map, length, IsTrue, All, slice_get}
+use Rattle.std.specs.Prelude.{◌≡◌, ℕ, ◌+◌, ◌-◌, ◌<◌, ◌≤◌, Bool, true, false, List, ◌∷◌, map, length, IsTrue, All, slice_get}
 use Rattle.gn_lazy.specs.Graphs.{has_output}
 use Rattle.gn_lazy.specs.declared.graph.Origin.{Origin}
 use Rattle.gn_lazy.specs.declared.graph.Origin.TheVariants.{Input, Constant, Out}
@@ -7,10 +7,10 @@ use Rattle.gn_lazy.specs.declared.graph.GraphNode.{GraphNode}
 use Rattle.gn_lazy.specs.declared.graph.Link.{Link}
 use Rattle.gn_shared.specs.Count.{Count}
 use Rattle.gn_node_set.specs.Paths.{Path}
-use Rattle.gn_node_set.specs.Meanings.{Meanings}
+use Rattle.gn_node_set.specs.Meanings.{Role, Switch, Choice, no_case, Meanings}
 use Rattle.gn_exec_laws.specs.Fits.{KindFits}
 use Rattle.gn_exec_laws.specs.Tasks.{opened_of}
-use Rattle.gn_exec_core.specs.declared.values.Opened.{Opened}
+use Rattle.gn_nodes.specs.declared.values.Opened.{Opened}
 
 module _ {G : Type 0} (items base : ℕ) (nodes : List (GraphNode G)) (constants : ℕ) where
   -- an origin inside what a zone opened: a number of an item or of a constant, or an output of one of its nodes
@@ -33,6 +33,15 @@ module _ {G H K V S T : Type 0} (m : Meanings K V S T) (kind_of : G → K) (cont
 -- a node of the kind may have a first input of the sort
 abbrev pub MayBeFirst : {K V S T : Type 0} → Meanings K V S T → K → S → Type 0
 MayBeFirst {S = S} m kind sort = (sorts : List S) × KindFits m kind (sort ∷ sorts)
+
+-- what a switch chooses once its condition is known, and whether it has chosen
+abbrev pub choice_as : Role → Bool → Choice → Choice
+choice_as Switch true choice = choice
+choice_as _ _ choice = no_case
+
+abbrev pub chosen_as : Role → Bool → Bool
+chosen_as Switch set = set
+chosen_as _ set = false
 
 -- the meter has noted no copy
 abbrev pub NoCopy : Count → Count → Type 0

@@ -1,12 +1,12 @@
 -- What answers, warnings and outputs stand for.
 use Rattle.std.specs.Prelude.{ℕ, List, ◌++◌, map, codes, decimal}
 use Rattle.gn_node_set.specs.Meanings as meant
-use Rattle.gn_exec_core.specs.declared.values.Answer.{Answer}
-use Rattle.gn_exec_core.specs.declared.values.Answer.TheVariants.{Whole, Absent, TooLong}
-use Rattle.gn_exec_core.specs.declared.values.WarningText.{WarningText}
-use Rattle.gn_exec_core.specs.declared.values.WarningText.TheVariants as text
-use Rattle.gn_exec_core.specs.declared.values.Warning.{Warning}
-use Rattle.gn_exec_core.specs.declared.values.Done.{Done}
+use Rattle.gn_nodes.specs.declared.values.Answer.{Answer}
+use Rattle.gn_nodes.specs.declared.values.Answer.TheVariants.{Whole, Absent, TooLong}
+use Rattle.gn_nodes.specs.declared.values.WarningText.{WarningText}
+use Rattle.gn_nodes.specs.declared.values.WarningText.TheVariants as text
+use Rattle.gn_nodes.specs.declared.values.Warning.{Warning}
+use Rattle.gn_nodes.specs.declared.values.Done.{Done}
 
 abbrev pub answer_of : Answer → meant.Answer
 answer_of (Whole bytes) = meant.Whole bytes.items

@@ -1,10 +1,10 @@
-ghost use Rattle.std.specs.Prelude.{◌≡◌, ℕ, ◌+◌, ◌-◌, ◌^◌, ◌<◌, ◌≤◌, Bool, true, false, All, map, option_map, IfOk, OnOk, Some, IsSome};
+ghost use Rattle.std.specs.Prelude.{◌≡◌, ℕ, ◌+◌, ◌-◌, ◌^◌, ◌<◌, ◌≤◌, Bool, true, false, All, map, option_map, IfOk, Some, IsSome, is_some};
 ghost use Rattle.gn_node_set.specs.Meanings as meant;
 ghost use Rattle.gn_node_set.specs.Meanings.{Meanings, converted};
 ghost use Rattle.gn_exec_laws.specs.Fits.{IsLawful, SharedStay, CanRun, shifted};
 ghost use Rattle.gn_uses.specs.Nodes.{role_of, choice_of};
-ghost use Rattle.gn_exec_core.specs.Values.{answer_of, done_of};
-ghost use Rattle.gn_exec_core.specs.Calls.{OpensAs, MayBeFirst, NoCopy};
+ghost use Rattle.gn_nodes.specs.Values.{answer_of, done_of};
+ghost use Rattle.gn_nodes.specs.Calls.{OpensAs, MayBeFirst, NoCopy, choice_as, chosen_as};
 
 use crate::values::{Answer, Done, Opened};
 use gn_exec_laws::NodeSet as Laws;
@@ -178,4 +178,22 @@ pub fn handed<N: NodeSet, L>(
 {
     let second = nodes.second(value, meter)?;
     nodes.through(second, kinds)
+}
+
+/// What a node chooses by its first value. A switch chooses as its kind says, any other node nothing.
+///
+/// Condition: the first value of a switch is of the sort of its first input.
+pub fn chosen<N: NodeSet>(
+    nodes: &N,
+    kind: &N::Kind,
+    first: &N::Value,
+) -> Result<Option<Choice>, Memory>
+    requires { N.meanings.rows.role (N.kind_of kind.now) ≡ meant.Switch → MayBeFirst N.meanings (N.kind_of kind.now) (N.meanings.sort (N.content first.now)) }
+    ensures choice { IfOk result (λ made. choice_of made ≡ choice_as (N.meanings.rows.role (N.kind_of kind.now)) true (N.meanings.rows.choice (N.kind_of kind.now) (N.content first.now))) }
+    ensures has_chosen { IfOk result (λ made. is_some made ≡ chosen_as (N.meanings.rows.role (N.kind_of kind.now)) true) }
+{
+    if nodes.role(kind) != Role::Switch {
+        return Ok(None);
+    }
+    Ok(Some(nodes.choose(kind, first)?))
 }
