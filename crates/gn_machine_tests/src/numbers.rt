@@ -17,7 +17,7 @@ pub enum NumberKind {
     Add,
     /// Hands on its first case behind a condition of 0, and else the second.
     Choose,
-    /// Gives the length of its file, which is 0 where there is none.
+    /// Gives the length of its file, or 0 for a file that is absent.
     Measure,
     /// A zone, whose first input says how often it turns. Its turns do nothing, so it gives its item.
     Repeat,
@@ -143,7 +143,7 @@ impl NodeSet for Numbers {
     }
 }
 
-/// An input; 0 where there is none.
+/// An input, or 0 past the last one.
 fn input_at(inputs: &[u64], number: usize) -> u64
     ensures { result ≡ slice_index_or inputs.now number 0 }
 {
