@@ -1,2 +1,4 @@
-pub mod Faults
 pub mod Tapes
+pub mod Faults
+pub mod Prepared
+pub mod Elsewhere

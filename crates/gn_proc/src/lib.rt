@@ -4,11 +4,17 @@
 //! that a tape has exactly as many instructions as its fields have different subtrees, and that
 //! `TooMany` comes exactly where these are more than 4,096, with their number.
 //!
+//! `Tape::ready_here` makes a tape ready to be run in a context, and refuses only where a field reads
+//! elsewhere. `Ready::run` promises a register for each field, which has the field's value at each of
+//! the elements (`AllGive`).
+//!
 //! A tape keeps a plan, which says in which order its steps are run and in which slot each leaves its
-//! values. The crate stands on `gn_field` for the steps, on `gn_schedule` for plans, and on `gn_plain`,
-//! whose expressions say what fields are.
+//! values. The crate stands on `gn_field` for the steps, on `gn_schedule` for plans, on `gn_slots`,
+//! which runs them, and on `gn_plain`, whose expressions say what fields are.
 #![tactic(auto)]
 
+mod ready;
 mod tape;
 
+pub use ready::Ready;
 pub use tape::{Tape, TapeFault, build};
