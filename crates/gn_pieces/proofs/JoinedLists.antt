@@ -15,7 +15,7 @@ use Rattle.gn_geometry.specs.Geometries.{GeometryView, geometry, mesh_in, plain_
 use Rattle.gn_geometry.proofs.Counts.{face_count, corner_count}
 use Rattle.gn_joins.specs.Joins.{shape_behind}
 use Rattle.gn_joins.specs.Appended.{appended, ends_behind}
-use Rattle.gn_joins.specs.Limits.{all_places, count_together, first_over, most_elements}
+use Rattle.gn_joins.specs.Limits.{count_together, first_over, most_elements}
 use Rattle.gn_joins.specs.Transforms.{moved_point}
 use Rattle.gn_joins.proofs.Appended.{joined_more, shape_appended}
 use Rattle.gn_joins.proofs.Counts.{count_joined}
@@ -24,7 +24,7 @@ use Rattle.gn_joins.proofs.Validity.{is_valid_appended}
 use Rattle.gn_pieces.specs.declared.shapes.Lists.{Lists}
 use Rattle.gn_pieces.specs.declared.view.Placing.{Placing}
 use Rattle.gn_pieces.specs.declared.view.View.{View}
-use Rattle.gn_pieces.specs.Lists.{AreJoined, no_topology, topology_of}
+use Rattle.gn_pieces.specs.Lists.{AreJoined, mesh_places, no_topology, topology_of}
 use Rattle.gn_pieces.specs.Views.{geometry_of, moved_points, placed}
 use Rattle.gn_pieces.proofs.Placed.{mesh_part_count}
 use Rattle.gn_pieces.proofs.Totals.{few_on, first_counted, map_take_more, one_more_counted}
@@ -96,21 +96,20 @@ module _ (l : Lists) (gs : List Geometry) (on : AreJoined l (map (λ g. g.mesh.s
   faces_long = sym (face_count l.points.items (topology_of l) on.valid) ∙ (ap (λ s. count_in s place.Face) on.shape ∙ count_joined gs place.Face)
 
 -- few elements in all, so that numbers of 32 bits name them
-pub numbered_lists : (l : Lists) (gs : List Geometry) → AreJoined l (map (λ g. g.mesh.shape) gs) → first_over (count_together gs) all_places ≡ None → IsNumbered (topology_of l)
+pub numbered_lists : (l : Lists) (gs : List Geometry) → AreJoined l (map (λ g. g.mesh.shape) gs) → first_over (count_together gs) mesh_places ≡ None → IsNumbered (topology_of l)
 numbered_lists l gs on few = record {
-  points = omega (arith, points_long l gs on, few_on (count_together gs) few place.Point);
-  edges = omega (arith, edges_long l gs on, few_on (count_together gs) few place.Edge);
-  corner_points = omega (arith, corners_long l gs on, few_on (count_together gs) few place.Corner);
-  corner_edges = omega (arith, on.valid.paired, corners_long l gs on, few_on (count_together gs) few place.Corner);
-  faces = omega (arith, faces_long l gs on, few_on (count_together gs) few place.Face);
+  points = omega (arith, points_long l gs on, (few_on (count_together gs) few).0);
+  edges = omega (arith, edges_long l gs on, (few_on (count_together gs) few).1);
+  corner_points = omega (arith, corners_long l gs on, (few_on (count_together gs) few).3);
+  corner_edges = omega (arith, on.valid.paired, corners_long l gs on, (few_on (count_together gs) few).3);
+  faces = omega (arith, faces_long l gs on, (few_on (count_together gs) few).2);
 }
 
-module _ (vs : List View) (few : first_over (count_together (map geometry_of vs)) all_places ≡ None) (i : ℕ) (v : View) (below : i < length vs) (at : v ≡ get_or vs i v) where
-  few_with : (p : Place) → count_together (map geometry_of (take i vs)) p + count (geometry_of v) p ≤ most_elements
-  few_with p =
+module _ (vs : List View) (few : first_over (count_together (map geometry_of vs)) mesh_places ≡ None) (i : ℕ) (v : View) (below : i < length vs) (at : v ≡ get_or vs i v) where
+  few_with : (p : Place) → count_together (map geometry_of vs) p ≤ most_elements → count_together (map geometry_of (take i vs)) p + count (geometry_of v) p ≤ most_elements
+  few_with p all =
       let more = one_more_counted geometry_of p vs i v below at in
       let first = first_counted geometry_of p (i + 1) vs in
-      let all = few_on (count_together (map geometry_of vs)) few p in
       omega (arith, more, first, all)
 
   module _ (l : Lists) (on : AreJoined l (shapes_of (take i vs))) (s : MeshArrays) (same : s ≡ (mesh_in v.geometry.now).shape) where
@@ -120,18 +119,18 @@ module _ (vs : List View) (few : first_over (count_together (map geometry_of vs)
     pub points_few : length l.points.items + length s.points.items < 2 ^ 32
     points_few =
         let here : length s.points.items ≡ count (geometry_of v) place.Point = counted place.Point ∙ sym (mesh_part_count v.geometry.now v.placing place.Point) in
-        omega (arith, points_long l (map geometry_of (take i vs)) on, here, few_with place.Point)
+        omega (arith, points_long l (map geometry_of (take i vs)) on, here, few_with place.Point (few_on (count_together (map geometry_of vs)) few).0)
 
     pub edges_few : length l.edges.items + length s.edges.items < 2 ^ 32
     edges_few =
         let here : length s.edges.items ≡ count (geometry_of v) place.Edge =
         sym (length-map s.edges.items edge_of) ∙ (counted place.Edge ∙ sym (mesh_part_count v.geometry.now v.placing place.Edge)) in
-        omega (arith, edges_long l (map geometry_of (take i vs)) on, here, few_with place.Edge)
+        omega (arith, edges_long l (map geometry_of (take i vs)) on, here, few_with place.Edge (few_on (count_together (map geometry_of vs)) few).1)
 
     pub corners_few : length l.corner_points.items + count_in (plain_of s) place.Corner < 2 ^ 32
     corners_few =
         let here : count_in (plain_of s) place.Corner ≡ count (geometry_of v) place.Corner = counted place.Corner ∙ sym (mesh_part_count v.geometry.now v.placing place.Corner) in
-        omega (arith, corners_long l (map geometry_of (take i vs)) on, here, few_with place.Corner)
+        omega (arith, corners_long l (map geometry_of (take i vs)) on, here, few_with place.Corner (few_on (count_together (map geometry_of vs)) few).3)
 
 -- ---- offsets
 

@@ -6,8 +6,9 @@ use Rattle.std.proofs.lemmas.List.Sums.{sum_by_push, sum_by-cons}
 use Rattle.gn_value.specs.declared.value.Place.{Place}
 use Rattle.gn_value.specs.declared.value.Place.TheVariants as place
 use Rattle.gn_plain.specs.Geometry.{Geometry, count}
-use Rattle.gn_joins.specs.Limits.{all_places, count_together, first_over, most_elements}
+use Rattle.gn_joins.specs.Limits.{count_together, first_over, most_elements}
 use Rattle.gn_joins.proofs.Moved.{map_both}
+use Rattle.gn_pieces.specs.Lists.{mesh_places}
 
 module _ {X : Type 0} (f : X → Geometry) where
   -- one more at the end of a list that is mapped
@@ -38,22 +39,11 @@ over_here counts p ps h =
     let two = none_by (nat_lt most_elements (counts p)) (p, min (counts p) (2 ^ 64 - 1)) (first_over counts ps) h in
     (not_over (counts p) two.0, two.1)
 
--- where no place has too many elements, each has few
-pub few_on : (counts : Place → ℕ) → first_over counts all_places ≡ None → (p : Place) → counts p ≤ most_elements
-few_on counts h p =
-    let point = over_here counts place.Point (place.Edge ∷ place.Face ∷ place.Corner ∷ place.Cloud ∷ place.Instance ∷ []) h in
-    let edge = over_here counts place.Edge (place.Face ∷ place.Corner ∷ place.Cloud ∷ place.Instance ∷ []) point.1 in
-    let face = over_here counts place.Face (place.Corner ∷ place.Cloud ∷ place.Instance ∷ []) edge.1 in
-    let corner = over_here counts place.Corner (place.Cloud ∷ place.Instance ∷ []) face.1 in
-    let cloud = over_here counts place.Cloud (place.Instance ∷ []) corner.1 in
-    let instance = over_here counts place.Instance [] cloud.1 in
-    by_place p point.0 edge.0 face.0 corner.0 cloud.0 instance.0
-  where
-    by_place : (p : Place) → counts place.Point ≤ most_elements → counts place.Edge ≤ most_elements → counts place.Face ≤ most_elements → counts place.Corner ≤ most_elements → counts place.Cloud ≤ most_elements
-        → counts place.Instance ≤ most_elements → counts p ≤ most_elements
-    by_place place.Point a b c d e f = a
-    by_place place.Edge a b c d e f = b
-    by_place place.Face a b c d e f = c
-    by_place place.Corner a b c d e f = d
-    by_place place.Cloud a b c d e f = e
-    by_place place.Instance a b c d e f = f
+-- where no place of a mesh has too many elements, each has few
+pub few_on : (counts : Place → ℕ) → first_over counts mesh_places ≡ None → (counts place.Point ≤ most_elements) × (counts place.Edge ≤ most_elements) × (counts place.Face ≤ most_elements) × (counts place.Corner ≤ most_elements)
+few_on counts h =
+    let point = over_here counts place.Point (place.Edge ∷ place.Face ∷ place.Corner ∷ []) h in
+    let edge = over_here counts place.Edge (place.Face ∷ place.Corner ∷ []) point.1 in
+    let face = over_here counts place.Face (place.Corner ∷ []) edge.1 in
+    let corner = over_here counts place.Corner [] face.1 in
+    (point.0, edge.0, face.0, corner.0)

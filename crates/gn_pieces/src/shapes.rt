@@ -6,8 +6,8 @@ ghost use Rattle.gn_plain.specs.Geometry.{count_in};
 ghost use Rattle.gn_plain.specs.Topology.{IsNumbered, IsValid};
 ghost use Rattle.gn_geom.specs.Meshes as meshes;
 ghost use Rattle.gn_joins.specs.Appended.{appended, ends_behind};
-ghost use Rattle.gn_joins.specs.Limits.{all_places, count_together, first_over};
-ghost use Rattle.gn_pieces.specs.Lists.{no_topology, topology_of, AreJoined};
+ghost use Rattle.gn_joins.specs.Limits.{count_together, first_over};
+ghost use Rattle.gn_pieces.specs.Lists.{mesh_places, no_topology, topology_of, AreJoined};
 ghost use Rattle.gn_pieces.specs.Views.{geometry_of, moved_points};
 
 use crate::view::{Placing, View};
@@ -117,9 +117,9 @@ impl Lists {
 
 /// The lists of the meshes of geometries one behind another, with their numbers shifted.
 ///
-/// Condition: together they have at most 2^23 elements on each place.
+/// Condition: together they have at most 2^23 elements on each place of a mesh.
 pub fn joined_lists(alloc: Global, views: &[View<'_>]) -> Result<Lists, Memory>
-    requires { first_over (count_together (map geometry_of views.now)) all_places ≡ None }
+    requires { first_over (count_together (map geometry_of views.now)) mesh_places ≡ None }
     ensures joined { IfOk result (λ l. AreJoined l (map (λ g. g.mesh.shape) (map geometry_of views.now))) }
     ensures numbered { IfOk result (λ l. IsNumbered (topology_of l)) }
 {
