@@ -1,0 +1,10 @@
+pub mod Behind
+pub mod Named
+pub mod Heads
+pub mod Placed
+pub mod Reading
+pub mod Found
+pub mod Fitting
+pub mod Totals
+pub mod Steps
+pub mod JoinedLists
