@@ -1,2 +1,5 @@
 pub mod Lowered
 pub mod Claims
+pub mod Carried
+pub mod Unfolding
+pub mod Events
