@@ -49,12 +49,12 @@ pub record Tried (name : Text) (before now : Seen) : Type 0 where
   pub asked : (now.asked ≡ with_name before.asked name) ⊎ (now.asked ≡ before.asked)
   pub missed : now.missed ≡ before.missed
 
--- the size is over the limit, and is the file's where files are told
+-- the size is over the limit, and is the file's, if the shelf exposes its files
 pub record IsLong (holds : Option Files) (name : Text) (limit size : ℕ) : Type 0 where
   pub over : limit < size
   pub held : IfSome holds (λ files. IsSomeAnd (files name) (λ file. length file ≡ size))
 
--- the bytes are those of the file, where files are told, and within the limit
+-- the bytes are those of the file, if the shelf exposes its files, and within the limit
 pub record IsWhole (holds : Option Files) (name : Text) (limit : ℕ) (bytes : List ℕ) : Type 0 where
   pub fits : length bytes ≤ limit
   pub held : IfSome holds (λ files. files name ≡ Some bytes)

@@ -29,7 +29,7 @@ pub record Outside : Type 0 where
 
 -- ---- the files asked for
 
--- the names where they are told, with more at the end
+-- the names, if the shelf exposes them, with more at the end
 abbrev pub with_names : Option Names → Names → Option Names
 with_names None names = None
 with_names (Some before) names = Some (before ++ names)
@@ -87,7 +87,7 @@ abbrev pub limit_of : Subject → ℕ
 limit_of the_tree = tree_limit
 limit_of the_input = input_limit
 
--- a file of the command is of that size, where files are told, and over its limit
+-- a file of the command is of that size, if the shelf exposes its files, and over its limit
 pub record IsOverlong (c : Command) (name : Text) (size : ℕ) (holds : Option Files) : Type 0 where
   pub subject : Subject
   pub named : name_of subject c ≡ Some name

@@ -13,7 +13,7 @@ use gn_shared::Meter;
 use gn_value::V3;
 use std::alloc::Global;
 
-/// Where a point goes: to the position, its own where there is none, and by the offset.
+/// Where a point goes: to the position, or from its own if no position is given, and by the offset.
 fn moved_point(point: V3, to: Option<V3>, by: V3) -> V3
     ensures { result ≡ spec.moved_point true to by point }
 {

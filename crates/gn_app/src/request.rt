@@ -31,7 +31,7 @@ fn eval_with(operands: &[String]) -> Result<Request<'_>, Option<&str>>
     }
 }
 
-/// The operand of `check`, or the word behind it, or none where there is none.
+/// The operand of `check`; else the first word too many, or `None` if a word is missing.
 fn check_with(operands: &[String]) -> Result<Request<'_>, Option<&str>>
     ensures { ReadsOperand (map string_bytes operands.now) result }
 {

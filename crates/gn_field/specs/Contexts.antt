@@ -48,7 +48,7 @@ KeepsValues c p = (kind : ValueKind) (q : Place) (value : ℕ → Value) (i : �
 abbrev pub HasOnly : Component → Place → Type 0
 HasOnly c p = (q : Place) → c.has q ≡ true → q ≡ p
 
--- on a place of a mesh there is a topology; elsewhere there is none, and no second place
+-- a place of a mesh has a topology; another component has none, and one place alone
 abbrev pub IsTopologyOf : Context → Option code.Topology → Type 0
 IsTopologyOf nowhere None = Unit {0}
 IsTopologyOf nowhere (Some t) = ⊥

@@ -87,7 +87,7 @@ total_more values js s x is =
     let counts : x.count + 1 ≡ length (js ++ s ∷ []) = ap (λ (t : Total). t.count + 1) is ∙ sym long in
     ap₂ (λ sum count. let t : Total = record { sum = sum; count = count } in t) sums counts
 
--- sums of so many values of 64 bits each
+-- sums of values of 64 bits each, whose number is counted beside them
 abbrev pub AreBounded : ℕ → List Total → Type 0
 AreBounded k xs = (i : ℕ) (d : Total) → i < length xs → (unsigned_abs (get_or xs i d).sum ≤ 2 ^ 63 * (get_or xs i d).count) × ((get_or xs i d).count ≤ k)
 

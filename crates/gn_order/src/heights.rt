@@ -60,8 +60,8 @@ fn greatest_height(heights: &[usize], nodes: &[usize]) -> usize
     most
 }
 
-/// Goes on from a node to the first of its targets whose height is not known; where there is none, the
-/// node's own height is found.
+/// Goes on from a node to the first of its targets whose height is not known; if all are known, finds the
+/// node's own height.
 fn step(
     targets: &[Vec<usize>],
     heights: &mut [usize],

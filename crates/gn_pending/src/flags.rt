@@ -4,7 +4,7 @@ ghost use Rattle.gn_pending.specs.Flags.{AreFlagged};
 use gn_memory::Memory;
 use std::alloc::Global;
 
-/// A flag; it isn't set where there is none.
+/// The flag of a number; past the last flag it isn't set.
 pub(crate) fn flag_at(flags: &[bool], number: usize) -> bool
     ensures { result ≡ slice_index_or flags.now number false }
 {

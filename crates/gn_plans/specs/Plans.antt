@@ -10,7 +10,7 @@ use Rattle.gn_meaning.specs.Demand.{output_read}
 use Rattle.gn_meaning.specs.Origins.{IsReadFrom}
 use Rattle.gn_rows.specs.Carried.{value_through}
 
--- the geometry that a tree gives out: the empty one, the tree's input, or its input with the selected points moved to a position, their own where there is none, and by an offset
+-- the geometry that a tree gives out: the empty one, the tree's input, or its input with the selected points moved to a position, or from their own if none is given, by an offset
 pub data Plan : Type 0 where
   no_mesh : Plan
   the_input : Plan

@@ -7,7 +7,7 @@ pub enum Plan {
     Empty,
     /// The tree's input.
     Input,
-    /// The tree's input with each vertex moved to a position, its own where there is none, and by an
+    /// The tree's input with each vertex moved to a position, or from its own if none is given, by an
     /// offset; as it is where no vertex is selected.
     Move {
         selected: bool,

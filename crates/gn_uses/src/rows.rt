@@ -10,7 +10,7 @@ pub(crate) fn set_flag(rows: &mut Vec<Vec<bool>>, number: usize, at: usize)
     rows[number][at] = true;
 }
 
-/// A flag of a row; it isn't set where there is none.
+/// A flag of a row; past the last row or its last flag it isn't set.
 pub(crate) fn flag_of(rows: &[Vec<bool>], number: usize, at: usize) -> bool
     ensures { result ≡ slice_index_or (row (rows_of rows.now) number) at false }
 {
