@@ -78,6 +78,14 @@ impl Cloud {
         &self.columns
     }
 
+    /// Puts columns in place of those that are there. Condition: they fit.
+    pub fn set_columns(&mut self, columns: Columns)
+        requires { AreFitting (cloud_count (length self.old.points.items)) columns }
+        ensures { self.new ≡ with_columns self.old columns }
+    {
+        self.columns = columns;
+    }
+
     /// Puts a column under a name. A new name goes last, and a known one keeps its number. A column
     /// of a known name takes no memory.
     ///

@@ -201,6 +201,14 @@ impl Instances {
         &self.columns
     }
 
+    /// Puts columns in place of those that are there. Condition: they fit.
+    pub fn set_columns(&mut self, columns: Columns)
+        requires { AreFitting (instance_count (length (items_in self.old))) columns }
+        ensures { self.new ≡ with_columns self.old columns }
+    {
+        self.columns = columns;
+    }
+
     /// Puts a column under a name. A new name goes last, and a known one keeps its number. A column
     /// of a known name takes no memory.
     ///
