@@ -34,10 +34,11 @@ fn add(alloc: Global, uses: &mut Uses, role: Role, inputs: &[Option<usize>]) -> 
 }
 
 fn want(uses: &mut Uses, node: usize) -> Option<()> {
-    if !uses.has_output(out(node)) {
+    let first = out(node);
+    if !uses.has_output(first) {
         return None;
     }
-    uses.want(out(node)).ok()
+    uses.want(first).ok()
 }
 
 fn fill(uses: &mut Uses, node: usize, input: usize) -> Option<()> {
