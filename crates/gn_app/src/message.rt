@@ -48,9 +48,7 @@ pub(crate) fn tell<E: Sink>(err: &mut E, ending: &Ending<'_>)
 {
     match ending {
         Ending::Done => {}
-        Ending::Misused { word: Some(word) } => {
-            put_pieces(err, &["geonodes: usage: unexpected ", word, "\n"])
-        }
+        Ending::Misused { word: Some(word) } => tell_stray(err, word.as_bytes()),
         Ending::Misused { word: None } => put_pieces(
             err,
             &["geonodes: usage: more words expected\n"],
