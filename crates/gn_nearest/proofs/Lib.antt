@@ -1,0 +1,5 @@
+pub mod Ranks
+pub mod Parts
+pub mod Growth
+pub mod Listed
+pub mod Trees
