@@ -7,9 +7,12 @@ ghost use Rattle.gn_field_rows.specs.Kinds.{AreOfKinds, input_kinds};
 ghost use Rattle.gn_field_nodes.specs.Given.{IsOutputFault, gives_fields};
 
 use crate::arguments;
-use crate::operate::{operation, separate_xyz, step, sums, vector_math};
+use crate::operate::{
+    at_index, boolean_math, integer_math, on_domain, operation, random_value, separate_xyz, sums,
+    vector_math,
+};
 use crate::read::{constant, edge_vertices, named_attribute, read, vertex_neighbors};
-use gn_field::{Field, FieldFault, Input, Source, Step};
+use gn_field::{Field, FieldFault, Input, Source};
 use gn_tree::Kind;
 use gn_value::Value;
 use gn_value::op::Op;
@@ -77,16 +80,8 @@ pub fn outputs<S: Source>(
         Kind::EdgeVertices => Ok(edge_vertices(alloc)?),
         Kind::VertexNeighbors => Ok(vertex_neighbors(alloc)?),
         Kind::Math { op } => operation(alloc, Op::Math { op: *op }, arguments::math(*op, inputs)),
-        Kind::IntegerMath { op } => operation(
-            alloc,
-            Op::IntegerMath { op: *op },
-            arguments::integer_math(*op, inputs),
-        ),
-        Kind::BooleanMath { op } => operation(
-            alloc,
-            Op::BooleanMath { op: *op },
-            arguments::boolean_math(*op, inputs),
-        ),
+        Kind::IntegerMath { op } => integer_math(alloc, *op, arguments::integer_math(*op, inputs)),
+        Kind::BooleanMath { op } => boolean_math(alloc, *op, arguments::boolean_math(*op, inputs)),
         Kind::VectorMath { op } => vector_math(alloc, *op, arguments::vector_math(*op, inputs)),
         Kind::Compare { of, op } => operation(alloc, Op::Compare { kind: *of, op: *op }, inputs),
         Kind::Clamp => operation(alloc, Op::Clamp, inputs),
@@ -95,28 +90,10 @@ pub fn outputs<S: Source>(
         Kind::FloatToInteger { op } => operation(alloc, Op::FloatToInteger { op: *op }, inputs),
         Kind::CombineXyz => operation(alloc, Op::CombineXyz, inputs),
         Kind::SeparateXyz => separate_xyz(alloc, &inputs),
-        Kind::RandomValue { of } => operation(
-            alloc,
-            Op::RandomValue { kind: *of },
-            arguments::random_value(*of, inputs),
-        ),
+        Kind::RandomValue { of } => random_value(alloc, *of, arguments::random_value(*of, inputs)),
         Kind::AccumulateField { of, place } => sums(alloc, *of, *place, &inputs),
-        Kind::EvaluateAtIndex { of, place } => step(
-            alloc,
-            Step::AtIndex {
-                kind: *of,
-                place: *place,
-            },
-            inputs,
-        ),
-        Kind::EvaluateOnDomain { of, place } => step(
-            alloc,
-            Step::OnDomain {
-                kind: *of,
-                place: *place,
-            },
-            inputs,
-        ),
+        Kind::EvaluateAtIndex { of, place } => at_index(alloc, *of, *place, inputs),
+        Kind::EvaluateOnDomain { of, place } => on_domain(alloc, *of, *place, inputs),
         _ => Ok(Vec::new(alloc)),
     }
 }

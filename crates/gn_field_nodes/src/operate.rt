@@ -2,8 +2,8 @@
 ghost use Rattle.std.specs.Prelude.{◌≡◌, [], ◌∷◌, ◌++◌, IfOk, IfErr, OnOk};
 ghost use Rattle.gn_value.specs.declared.op.Axis.{Axis};
 ghost use Rattle.gn_value.specs.declared.op.Axis.TheVariants.{X, Y, Z};
-ghost use Rattle.gn_value.specs.declared.op.Op.TheVariants.{SeparateXyz, VectorMath};
-ghost use Rattle.gn_plain.specs.Fields.{kind_of_field, accumulate, leading, trailing, total};
+ghost use Rattle.gn_value.specs.declared.op.Op.TheVariants.{BooleanMath, IntegerMath, RandomValue, SeparateXyz, VectorMath};
+ghost use Rattle.gn_plain.specs.Fields.{kind_of_field, accumulate, at_index, on_domain, leading, trailing, total};
 ghost use Rattle.gn_plain.specs.Subtrees.{count_different};
 ghost use Rattle.gn_field.specs.declared.input.Part.{Part};
 ghost use Rattle.gn_field.specs.Faults.{IsFieldFault};
@@ -15,7 +15,7 @@ ghost use Rattle.gn_field_nodes.specs.Given.{CanApply, CanRead, IsFaultOf};
 use crate::read::{only, push};
 use gn_field::{Field, FieldFault, Part, Source, Step};
 use gn_memory::Memory;
-use gn_value::op::{Axis, Op, VectorMathOp};
+use gn_value::op::{Axis, BooleanMathOp, IntegerMathOp, Op, VectorMathOp};
 use gn_value::{Place, Value, ValueKind};
 use std::alloc::Global;
 
@@ -45,8 +45,47 @@ pub(crate) fn operation<S: Source>(
     Ok(fields)
 }
 
+/// What an operation on integers gives for its arguments.
+pub(crate) fn integer_math<S: Source>(
+    alloc: Global,
+    op: IntegerMathOp,
+    args: Vec<Field<S>>,
+) -> Result<Vec<Field<S>>, FieldFault>
+    requires { CanApply S.sources (IntegerMath op) args.items }
+    ensures row { IfOk result (λ fields. fields.items ≡ operated (IntegerMath op) args.items ∷ []) }
+    ensures fault { IfErr result (IsFaultOf (operated (IntegerMath op) args.items ∷ [])) }
+{
+    operation(alloc, Op::IntegerMath { op }, args)
+}
+
+/// What an operation on truths gives for its arguments.
+pub(crate) fn boolean_math<S: Source>(
+    alloc: Global,
+    op: BooleanMathOp,
+    args: Vec<Field<S>>,
+) -> Result<Vec<Field<S>>, FieldFault>
+    requires { CanApply S.sources (BooleanMath op) args.items }
+    ensures row { IfOk result (λ fields. fields.items ≡ operated (BooleanMath op) args.items ∷ []) }
+    ensures fault { IfErr result (IsFaultOf (operated (BooleanMath op) args.items ∷ [])) }
+{
+    operation(alloc, Op::BooleanMath { op }, args)
+}
+
+/// Random values of a kind.
+pub(crate) fn random_value<S: Source>(
+    alloc: Global,
+    kind: ValueKind,
+    args: Vec<Field<S>>,
+) -> Result<Vec<Field<S>>, FieldFault>
+    requires { CanApply S.sources (RandomValue kind) args.items }
+    ensures row { IfOk result (λ fields. fields.items ≡ operated (RandomValue kind) args.items ∷ []) }
+    ensures fault { IfErr result (IsFaultOf (operated (RandomValue kind) args.items ∷ [])) }
+{
+    operation(alloc, Op::RandomValue { kind }, args)
+}
+
 /// What a step gives for fields.
-pub(crate) fn step<S: Source>(
+fn step<S: Source>(
     alloc: Global,
     step: Step,
     args: Vec<Field<S>>,
@@ -58,6 +97,34 @@ pub(crate) fn step<S: Source>(
     let field = Field::elsewhere(alloc, step, args)?;
     let fields = only(alloc, field)?;
     Ok(fields)
+}
+
+/// The values at the elements of an index.
+pub(crate) fn at_index<S: Source>(
+    alloc: Global,
+    kind: ValueKind,
+    place: Place,
+    args: Vec<Field<S>>,
+) -> Result<Vec<Field<S>>, FieldFault>
+    requires { CanRead S.sources (at_index kind place) args.items }
+    ensures row { IfOk result (λ fields. fields.items ≡ seen_from (at_index kind place) args.items ∷ []) }
+    ensures fault { IfErr result (IsFaultOf (seen_from (at_index kind place) args.items ∷ [])) }
+{
+    step(alloc, Step::AtIndex { kind, place }, args)
+}
+
+/// The values on the elements of a place.
+pub(crate) fn on_domain<S: Source>(
+    alloc: Global,
+    kind: ValueKind,
+    place: Place,
+    args: Vec<Field<S>>,
+) -> Result<Vec<Field<S>>, FieldFault>
+    requires { CanRead S.sources (on_domain kind place) args.items }
+    ensures row { IfOk result (λ fields. fields.items ≡ seen_from (on_domain kind place) args.items ∷ []) }
+    ensures fault { IfErr result (IsFaultOf (seen_from (on_domain kind place) args.items ∷ [])) }
+{
+    step(alloc, Step::OnDomain { kind, place }, args)
 }
 
 /// A field as the vector and the number of an output each; the other one is zero.
