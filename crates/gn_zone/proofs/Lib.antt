@@ -1,3 +1,4 @@
 pub mod Found
 pub mod Valued
+pub mod Counted
 mod Examples

@@ -28,3 +28,7 @@ pub record Opens (kind : Kind) (path : Path) (base turns : ℕ) (opened : CodeOp
   pub found : opened_within (written_as kind) path by_name steps turns ≡ Some (opened_by_name (length body.sockets) base opened)
   pub inputs : All (λ node. AreInside (length body.sockets) base opened.nodes.items (length opened.constants.items) node.inputs.items) opened.nodes.items
   pub outputs : AreInside (length body.sockets) base opened.nodes.items (length opened.constants.items) opened.outputs.items
+
+-- a zone has a link for each item of its body
+abbrev pub EachOutputIsOpened : Type 0
+EachOutputIsOpened = (kind : Kind) (path : Path) (base turns : ℕ) (opened : CodeOpened Kind Constant) → (opens : Opens kind path base turns opened) → length opened.outputs.items ≡ length opens.body.sockets

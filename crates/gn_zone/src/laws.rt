@@ -1,4 +1,5 @@
 ghost use Rattle.gn_zone.specs.Filled.{FoundZonesAreFilledIn, OpenedZonesAreFound};
+ghost use Rattle.gn_zone.specs.Opens.{EachOutputIsOpened};
 
 use gn_stands::TreeMeanings;
 
@@ -12,4 +13,9 @@ pub fn found_zones_are_filled_in<N: TreeMeanings>()
 /// zone over these values.
 pub fn opened_zones_are_found<N: TreeMeanings>()
     ensures { OpenedZonesAreFound N.Values }
+{}
+
+/// What was opened for a zone has a link for each item of the zone's body.
+pub fn each_output_is_opened()
+    ensures { EachOutputIsOpened }
 {}
