@@ -4,6 +4,7 @@ use gn_found::laws::{
 };
 use gn_lower::laws::lowered_graphs_stand;
 use gn_stands::TreeMeanings;
+use gn_zone::laws::{each_output_is_opened, found_zones_are_filled_in, opened_zones_are_found};
 use std::test::Fail;
 
 // Nodes that give nothing, over values that are all alike: the laws are called at one type.
@@ -47,5 +48,8 @@ fn the_laws_can_be_called_at_meanings(_rt: HostRuntime) -> Result<(), Fail> {
     found_graphs_exist();
     repeats_have_bodies();
     lowered_graphs_stand::<NoValues>();
+    found_zones_are_filled_in::<NoValues>();
+    opened_zones_are_found::<NoValues>();
+    each_output_is_opened();
     Ok(())
 }

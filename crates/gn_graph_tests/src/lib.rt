@@ -9,6 +9,8 @@ mod kinds;
 #[cfg(test)]
 mod laws;
 #[cfg(test)]
+mod lower;
+#[cfg(test)]
 mod order;
 #[cfg(test)]
 mod tables;

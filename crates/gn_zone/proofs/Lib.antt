@@ -1,0 +1,4 @@
+pub mod Found
+pub mod Valued
+pub mod Counted
+mod Examples
