@@ -106,4 +106,11 @@ impl<'a, S: Source, C: Context> Ready<'a, S, C> {
             elements,
         )
     }
+
+    /// How many elements the context has.
+    pub fn len(&self) -> u32
+        ensures { result ≡ length_of (C.meaning self.now.1) }
+    {
+        self.context.len()
+    }
 }
