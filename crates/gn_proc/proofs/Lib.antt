@@ -1,2 +1,3 @@
 pub mod Tapes
 pub mod Here
+pub mod Preparing

@@ -4,13 +4,15 @@
 //! that a tape has exactly as many instructions as its fields have different subtrees, and that
 //! `TooMany` comes exactly where these are more than 4,096, with their number.
 //!
-//! `Tape::ready_here` makes a tape ready to be run in a context, and refuses only where a field reads
-//! elsewhere. `Ready::run` promises a register for each field, which has the field's value at each of
-//! the elements (`AllGive`).
+//! `Tape::ready` makes a tape ready to be run in a context, with the values of what its fields read
+//! elsewhere, each made once. `Tape::ready_here` does so without memory, and refuses only where a field
+//! reads elsewhere. `Ready::run` promises a register for each field, which has the field's value at each
+//! of the elements (`AllGive`).
 //!
 //! A tape keeps a plan, which says in which order its steps are run and in which slot each leaves its
 //! values. The crate stands on `gn_field` for the steps, on `gn_schedule` for plans, on `gn_slots`,
-//! which runs them, and on `gn_plain`, whose expressions say what fields are.
+//! which runs them, on `gn_wholes` for what fields read elsewhere, and on `gn_plain`, whose expressions
+//! say what fields are.
 #![tactic(auto)]
 
 mod ready;

@@ -13,6 +13,7 @@ use gn_memory::Memory;
 use gn_schedule::Plan;
 use gn_slots::{Whole, run_roots};
 use gn_value::op::Register;
+use gn_wholes::wholes_in;
 use std::alloc::Global;
 use std::marker::Model;
 
@@ -42,6 +43,27 @@ impl<'a, S: Source, C: Context> Model for Ready<'a, S, C> {
     ghost view = { λ r. (map (named (built r.steps.now)) r.roots.now, r.context.now) };
 
     ghost invariant = { λ r. IsPrepared S.sources S.taken (C.meaning r.context.now) r.steps.now r.roots.now r.plan.now r.wholes.items };
+}
+
+/// Makes a tape ready to be run in a context.
+pub(crate) fn prepare<'a, S: Source, C: Context + Drop>(
+    alloc: Global,
+    steps: &'a [FieldStep<S>],
+    roots: &'a [u32],
+    plan: &'a Plan,
+    context: &'a C,
+) -> Result<Ready<'a, S, C>, Memory>
+    requires { IsTape S.sources S.taken steps.now roots.now plan.now }
+    ensures { IfOk result (λ ready. ready ≡ (map (named (built steps.now)) roots.now, context.now)) }
+{
+    let wholes = wholes_in(alloc, steps, roots, context)?;
+    Ok(Ready {
+        steps,
+        roots,
+        plan,
+        context,
+        wholes,
+    })
 }
 
 /// Whether a step reads all that it reads at its own elements.

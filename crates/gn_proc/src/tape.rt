@@ -7,7 +7,7 @@ ghost use Rattle.gn_proc.specs.Tapes.{AreSteps};
 ghost use Rattle.gn_proc.specs.Faults.{IsTapeFault};
 ghost use Rattle.gn_proc.specs.Elsewhere.{any_elsewhere};
 
-use crate::ready::{Ready, prepare_here};
+use crate::ready::{Ready, prepare, prepare_here};
 use gn_field::{Context, Field, FieldStep, Gathered, Source};
 use gn_memory::Memory;
 use gn_schedule::{Plan, plan_of};
@@ -105,6 +105,18 @@ impl<S: Source> Tape<S> {
         ensures { result ≡ count_different self.now }
     {
         self.steps.len() as u32
+    }
+
+    /// The tape with what it needs to be run in a context: the values of its steps that read elsewhere,
+    /// made once over their whole places.
+    pub fn ready<'a, C: Context + Drop>(
+        &'a self,
+        alloc: Global,
+        context: &'a C,
+    ) -> Result<Ready<'a, S, C>, Memory>
+        ensures { IfOk result (λ ready. ready ≡ (self.now, context.now)) }
+    {
+        prepare(alloc, &self.steps, &self.roots, &self.plan, context)
     }
 
     /// The tape with what it needs to be run in a context, or `None` where a field reads elsewhere.
