@@ -3,7 +3,7 @@
 //! Both top calls are handed the outside world: a shelf of files, a sink for the output, a sink for
 //! messages, and a meter. For every list of words they keep one statement, the record `IsCall` of
 //! `specs/Run.antt`: the status is the one that the files lead to; where it is `Done` for `eval`, the
-//! bytes written are the text of the geometry that stands at what the tree gives out, the files asked
+//! bytes written are the text of the geometry that the tree gives out, the files asked
 //! for are the tree and the input, each once, and the node runs are as many as the nodes demanded; any
 //! other end is reported by a line on the sink of messages. `check` asks for the tree alone, runs no node
 //! and writes `ok`. Words that spell no command touch no file and no output.

@@ -9,7 +9,7 @@ use crate::request::read_request;
 use crate::status::Status;
 use gn_io::Sink;
 
-/// Writes the line of words behind which a word stands that is no text.
+/// Writes the line of words that are followed by a word that is no text.
 fn tell_misfit<E: Sink>(words: &[String], stray: &[u8], err: &mut E)
     ensures { TellsStray (map string_bytes words.now) stray.now (sink_by E.held E.faults err.old) (sink_by E.held E.faults err.new) }
 {
@@ -20,7 +20,7 @@ fn tell_misfit<E: Sink>(words: &[String], stray: &[u8], err: &mut E)
     }
 }
 
-/// Reports words behind which a word stands that is no text, so that they spell no command.
+/// Reports words that are followed by a word that is no text, so that they spell no command.
 ///
 /// The line on `err` names the first of the words such that no command begins with the words up to it.
 /// Where a command begins with all of them, it names the word that is no text, as it came.

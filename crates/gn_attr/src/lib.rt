@@ -1,6 +1,6 @@
 //! Columns: under a name, values of one kind for the elements of a place.
 //!
-//! The values of a column stand in a shared array. `Columns` is an ordered list of columns under
+//! The values of a column are in a shared array. `Columns` is an ordered list of columns under
 //! different names; contracts see its members in order, each with its name, its place and its
 //! handle, and `plain_columns` forgets the handles. A second list shares each array whose handle
 //! has a part to give, and a column is written in place where its handle is the only one of the

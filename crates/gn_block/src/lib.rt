@@ -5,7 +5,7 @@
 //! handles and those that came back to the block add up to exactly the limit. A handle that goes or
 //! looks and finds 1 has the block to itself, as a `Loose`. A `Name` has no bytes: whoever has a
 //! block's name is its only owner. All raw steps on shared arrays are in this crate, proved by hand
-//! in twelve small functions; what stands above it is safe code.
+//! in twelve small functions; what is above it is safe code.
 //!
 //! The crate stands on `core` and `std_alloc`, and its proofs on `atomic_table` and `counted_slot`.
 #![tactic(auto)]

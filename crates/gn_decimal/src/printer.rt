@@ -72,7 +72,7 @@ fn write_digits(number: u64, count: usize, into: &mut [u8], at: usize)
 
 /// Writes the digits of a whole number behind the first `at` bytes, and gives where they end.
 ///
-/// What stands in `into` behind them is not said. The call takes no memory.
+/// What is in `into` behind them is not said. The call takes no memory.
 #[inline(always)]
 #[tactic(auto, using(crate::proofs::Padding::padded_decimal))]
 pub fn write_whole(number: u64, into: &mut [u8], at: usize) -> usize
@@ -137,7 +137,7 @@ fn write_sign(is_negative: bool, into: &mut [u8], at: usize) -> usize
 
 /// Writes the text of the number, as `print` does, behind the first `at` bytes, and gives where it ends.
 ///
-/// What stands in `into` behind the text is not said. The call takes no memory.
+/// What is in `into` behind the text is not said. The call takes no memory.
 #[inline(always)]
 #[tactic(auto, using(crate::proofs::Padding::ten_billionths_below))]
 pub fn write_number(value: Fx, into: &mut [u8], at: usize) -> usize
@@ -157,7 +157,7 @@ pub fn write_number(value: Fx, into: &mut [u8], at: usize) -> usize
 /// The text is the multiple of 10^-10 nearest to the number, and of two equally near ones the even
 /// one: a minus if it is below zero, its whole part without leading zeros, and where a fraction is
 /// left a point and its digits without trailing zeros. `read` gives the number back from it. What
-/// stands in `into` behind the text is not said. The call takes no memory.
+/// is in `into` behind the text is not said. The call takes no memory.
 pub fn print(value: Fx, into: &mut [u8; 24]) -> usize
     ensures text { take result into.new ≡ dec value.0 }
     ensures reads_back { num (take result into.new) ≡ Some value.0 }

@@ -138,7 +138,7 @@ pub fn short_magnitude(whole: u64, part: u64, places: usize) -> u64
     whole * RAW_ONE + nearest(billionths * RAW_ONE, BILLION)
 }
 
-/// The same of digits of which the last `places` stand behind the point.
+/// The same of digits of which the last `places` are behind the point.
 fn split_magnitude(digits: u64, places: usize) -> u64
     requires { places < 10 }
     ensures { result ≡ min (raw_of (units digits 0 places)) GREATEST }

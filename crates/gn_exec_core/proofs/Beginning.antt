@@ -17,7 +17,10 @@ use Rattle.gn_exec_core.specs.Holds.{input_of, present, HaveConditions}
 use Rattle.gn_exec_core.specs.Jobs.{Holds}
 use Rattle.gn_exec_core.specs.Starts.{begun, start_value, IsChosenBy, HasNumbers}
 use Rattle.gn_exec_core.proofs.Taking.{unset_within}
-use Rattle.gn_exec_core.proofs.Starting.{all_first, kept_first, taken_first}
+use Rattle.gn_readers.specs.declared.place.Reader.{Reader}
+use Rattle.gn_readers.specs.Readers.{HaveReaders}
+use Rattle.gn_exec_core.specs.Finishes.{HandsOn}
+use Rattle.gn_exec_core.proofs.Starting.{roots_first, all_first, kept_first, taken_first}
 
 none_set : (n k : ℕ) → slice_index_or (replicate n false) k false ≡ false
 none_set zero k = refl
@@ -66,3 +69,10 @@ module _ {G H K V S T : Type 0} (m : Meanings K V S T) (kind_of : G → K) (cont
     subst (IsReached m kind_of content) (sym (seen_begun graph given about journal none is)) begun_reached,
     subst (λ s. Holds m kind_of content s u choices rows []) (sym (seen_begun graph given about journal none is)) begun_holds,
   )
+
+-- and it can hand on
+pub begun_hands : {G H K V S T : Type 0} (m : Meanings K V S T) (kind_of : G → K) (content : H → V) (graph : Nodes G) (given about : List H) (ordered : IsOrdered graph) (readers : List (List Reader)) (roots : List (Option H)) (journal : List (Happened H))
+    → HaveReaders graph readers → map (option_map content) roots ≡ map (start_value m (map content given)) graph.roots → about ≡ given → journal ≡ [] → HandsOn m kind_of content (seen graph about journal) readers roots
+begun_hands m kind_of content graph given about ordered readers roots journal have values is none =
+    subst (λ s. HandsOn m kind_of content s readers roots) (sym (seen_begun graph given about journal none is))
+    (record { readers = have; roots = values ∙ roots_first m kind_of content graph (map content given) ordered })

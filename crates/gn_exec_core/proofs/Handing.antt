@@ -17,6 +17,8 @@ use Rattle.gn_exec_core.specs.declared.jobs.Job.{Job}
 use Rattle.gn_exec_core.specs.States.{State, events_of, seen, any_refuses, HasFlags, job, now as now_of, IsReached}
 use Rattle.gn_exec_core.specs.Holds.{present}
 use Rattle.gn_exec_core.specs.Jobs.{IsJob, Holds}
+use Rattle.gn_exec_core.specs.Finishes.{HandsOn}
+use Rattle.gn_readers.specs.declared.place.Reader.{Reader}
 use Rattle.gn_nodes.specs.Values.{answer_of}
 use Rattle.gn_exec_core.proofs.Using.{at_node}
 use Rattle.gn_exec_core.proofs.Refusals.{events_counted}
@@ -25,6 +27,9 @@ use Rattle.gn_exec_core.proofs.Taking.{seen_take, flags_taken, none_ready, ready
 -- one take more
 abbrev pub with_take : {K V : Type 0} → State K V → ℕ → ℕ → State K V
 with_take s worker node = record s { events = Take worker node ∷ s.events }
+
+pub hands_taken : {G H K V S T : Type 0} (m : Meanings K V S T) (kind_of : G → K) (content : H → V) (s : State G H) (readers : List (List Reader)) (roots : List (Option H)) (worker n : ℕ) → HandsOn m kind_of content s readers roots → HandsOn m kind_of content (with_take s worker n) readers roots
+hands_taken m kind_of content s readers roots worker n h = record { readers = h.readers; roots = h.roots }
 
 pub first_none : {A : Type 0} (xs : List A) → slice_get xs 0 ≡ None → xs ≡ []
 first_none [] e = refl

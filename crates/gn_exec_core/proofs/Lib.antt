@@ -10,4 +10,10 @@ pub mod Handing
 pub mod Serving
 pub mod Tallying
 pub mod Waiting
+pub mod Finishing
+pub mod Allowing
+pub mod Finished
+pub mod Closing
+pub mod Ending
+pub mod Running
 mod Examples

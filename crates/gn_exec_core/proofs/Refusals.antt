@@ -150,3 +150,8 @@ any_flagged flags es room h =
 
 pub read_unset : (flags : List Bool) (n : ℕ) (b : Bool) → b ≡ get_or flags n b → b ≡ false → get_or flags n false ≡ false
 read_unset flags n b e f = subst (λ c. get_or flags n c ≡ c) f (sym e)
+
+pub read_set : (flags : List Bool) (n : ℕ) (b : Bool) → b ≡ get_or flags n b → b ≡ true → n < length flags → get_or flags n false ≡ true
+read_set [] n b e f below = absurd (omega (arith, below))
+read_set (x ∷ xs) zero b e f below = sym e ∙ f
+read_set (x ∷ xs) (suc n) b e f below = read_set xs n b e f (omega (arith, below))

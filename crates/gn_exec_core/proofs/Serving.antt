@@ -26,6 +26,8 @@ use Rattle.gn_exec_core.specs.States.{State, event_of, events_of, outputs_in, se
 use Rattle.gn_nodes.specs.Calls.{choice_as, chosen_as}
 use Rattle.gn_exec_core.specs.Holds.{value_now, AreNumbered, AreTaken}
 use Rattle.gn_exec_core.specs.Jobs.{Holds}
+use Rattle.gn_exec_core.specs.Finishes.{HandsOn}
+use Rattle.gn_readers.specs.declared.place.Reader.{Reader}
 use Rattle.gn_exec_core.specs.Waits.{served_by, MayServe, Tallies}
 use Rattle.gn_exec_core.proofs.Refusals.{events_push, events_counted}
 use Rattle.gn_exec_core.proofs.Using.{inside, at_node, in_world, from_world}
@@ -186,6 +188,13 @@ module _ {G H K V S T : Type 0} (m : Meanings K V S T) (kind_of : G → K) (cont
         answers = λ k at e fresh. answer_kept k at e fresh (same_number k n) ∙ sym (ap (λ y. y.answers at.path.steps.items) after);
       }
 
+  pub hands_served : (readers : List (List Reader)) (roots : List (Option H)) → HandsOn m kind_of content s readers roots → HandsOn m kind_of content s' readers roots
+  hands_served readers roots hands = record {
+    readers = hands.readers;
+    roots = hands.roots
+        ∙ map_equal (value_now m w) (value_now m (now m kind_of content s')) (job m kind_of content s).roots (λ l has. sym (ap (λ y. value_now m y l) after ∙ value_same m w v refl refl l));
+  }
+
   pub reached_served : any_refuses s.events ≡ false → IsReached m kind_of content s'
   reached_served none = record { start = reached.start; run = (((x, waits), none_refused s.events none), reached.run) }
 
@@ -247,6 +256,12 @@ module _ {G H K V S T : Type 0} (m : Meanings K V S T) (kind_of : G → K) (cont
           subst (λ es. Tallies graph.nodes es u'.nodes done (set unanswered n false) (length got') running) (sym events_are)
               (tallied_serve graph.nodes (events_of journal) done unanswered slots running u u' n (answer_of a) change serve_below tallies (length got') still),
         )
+
+    pub hands_made : (readers : List (List Reader)) (roots : List (Option H)) → HandsOn m kind_of content (seen graph given journal) readers roots → (a : Answer) (last : Happened H) (journal' : List (Happened H)) → event_of last ≡ Serve n (answer_of a) → outputs_in (last ∷ []) ≡ [] → journal' ≡ journal ++ last ∷ []
+        → HandsOn m kind_of content (seen graph given journal') readers roots
+    hands_made readers roots hands a last journal' event nothing is =
+        subst (λ s. HandsOn m kind_of content s readers roots) (sym (ap (seen graph given) is ∙ seen_serve graph given journal last n (answer_of a) event nothing))
+        (hands_served m kind_of content (seen graph given journal) u made rows got holds reached n a waits.0 waits.1 readers roots hands)
 
     pub seen_answer : (a : Answer) (last : Happened H) (journal' : List (Happened H)) → event_of last ≡ Serve n (answer_of a) → outputs_in (last ∷ []) ≡ [] → journal' ≡ journal ++ last ∷ [] → seen graph given journal' ≡ served_by state n (answer_of a)
     seen_answer a last journal' event nothing is = ap (seen graph given) is ∙ seen_serve graph given journal last n (answer_of a) event nothing ∙ ap (λ s. served_by s n (answer_of a)) view

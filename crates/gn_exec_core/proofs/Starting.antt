@@ -106,6 +106,12 @@ module _ {G H K V S T : Type 0} (m : Meanings K V S T) (kind_of : G → K) (cont
         map_equal (λ l. is_none (input_of l)) (λ l. is_set w (carried l).from) at.inputs.items (λ l has. origin_set l.origin (input_there n at e l has))
         ∙ sym (map_map (λ l. is_set w l.from) carried at.inputs.items)
 
+    -- the values of the roots
+    pub roots_first : map (start_value m given) graph.roots ≡ map (value_now m w) (map carried graph.roots)
+    roots_first =
+        map_equal (start_value m given) (λ l. value_now m w (carried l)) graph.roots (λ l has. sym (link_value_first l (all_has (λ x. IsTrue (is_there graph.nodes graph.constants x.origin)) graph.roots ordered.1 l has)))
+        ∙ sym (map_map (value_now m w) carried graph.roots)
+
   -- ---- choices
 
   set_first : (links : List (Link V)) → first_set (map (value_now m w) links) ≡ condition_set m w links
@@ -187,6 +193,15 @@ module _ {G H K V S T : Type 0} (m : Meanings K V S T) (kind_of : G → K) (cont
         let s : (s : S) × LinkSort m [] (map node graph.nodes) (carried l) s =
         beside_of (LinkSort m [] (map node graph.nodes)) (node at).links f.sorts (links_beside m [] (map node graph.nodes) (node at).links f.sorts f.links) (carried l) (has_image carried at.inputs.items l has) in
         carries l.origin l.through.items s.0 (input_there ordered n at e l has) s.1
+
+    -- and so can each root
+    root_carries : (l : GraphLink) → Has graph.roots l → CanCarry m given l
+    root_carries l has =
+        let s = start.roots (carried l) (has_image carried graph.roots l has) in
+        carries l.origin l.through.items s.0 (all_has (λ x. IsTrue (is_there graph.nodes graph.constants x.origin)) graph.roots ordered.1 l has) s.1
+
+    pub roots_carry : All (λ l. CanCarry m given l) graph.roots
+    roots_carry k e within = root_carries (slice_index_or graph.roots k e) (has_index graph.roots k e within)
 
     conditioned : (kind : K) (given_links : List GraphLink) (sorts : List S) → given_links ≢ [] → Beside (LinkSort m [] (map node graph.nodes)) (map carried given_links) sorts → KindFits m kind sorts
         → ((l : GraphLink) → Has given_links l → IsTrue (is_there graph.nodes graph.constants l.origin))

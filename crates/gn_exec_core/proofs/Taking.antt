@@ -20,6 +20,8 @@ use Rattle.gn_nodes.specs.Values.{answer_of}
 use Rattle.gn_exec_core.specs.States.{State, events_of, outputs_in, seen, any_refuses, unset, HasFlags, job, now, IsReached}
 use Rattle.gn_exec_core.specs.Holds.{present, AreNumbered, AreTaken}
 use Rattle.gn_exec_core.specs.Jobs.{Holds}
+use Rattle.gn_exec_core.specs.Finishes.{HandsOn}
+use Rattle.gn_readers.specs.declared.place.Reader.{Reader}
 use Rattle.gn_exec_core.proofs.Refusals.{events_push}
 use Rattle.gn_exec_core.proofs.Using.{at_node}
 use Rattle.gn_exec_core.proofs.Readying.{ready_found, found_ready, values_read}
@@ -158,3 +160,6 @@ holds_refused m kind_of content s u choices rows answers worker h = record {
   kept = h.kept;
   answers = h.answers;
 }
+
+pub hands_refused : {G H K V S T : Type 0} (m : Meanings K V S T) (kind_of : G → K) (content : H → V) (s : State G H) (readers : List (List Reader)) (roots : List (Option H)) (worker : ℕ) → HandsOn m kind_of content s readers roots → HandsOn m kind_of content (record s { events = Refuse worker ∷ s.events }) readers roots
+hands_refused m kind_of content s readers roots worker h = record { readers = h.readers; roots = h.roots }

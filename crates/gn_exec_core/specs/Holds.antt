@@ -1,5 +1,5 @@
 -- What the numbers and the kept values say of a world: which nodes are used, and what each input carries.
-use Rattle.std.specs.Prelude.{◌≡◌, ◌≢◌, ◌↔◌, ℕ, Bool, true, false, List, [], ◌∷◌, map, Option, Some, None, option_map, is_some, if◌then◌else◌, slice_get, slice_index_or}
+use Rattle.std.specs.Prelude.{◌≡◌, ◌≢◌, ◌↔◌, ℕ, List, [], ◌∷◌, map, Option, Some, None, option_map, is_some, if◌then◌else◌, slice_get, slice_index_or}
 use Rattle.gn_lazy.specs.Graphs.{Nodes}
 use Rattle.gn_lazy.specs.declared.graph.Origin.{Origin}
 use Rattle.gn_lazy.specs.declared.graph.Origin.TheVariants.{Input, Constant, Out}

@@ -3,3 +3,4 @@ pub mod Holds
 pub mod Jobs
 pub mod Starts
 pub mod Waits
+pub mod Finishes

@@ -7,7 +7,7 @@ ghost use Rattle.gn_exec_core.specs.Jobs.{lists_of, IsBlank};
 
 use gn_lazy::{GraphNode, Path};
 use gn_memory::Memory;
-use gn_nodes::{Answer, NodeSet};
+use gn_nodes::{Answer, Done, NodeSet};
 use gn_uses::{Choice, Role};
 use std::alloc::Global;
 use std::mem;
@@ -36,6 +36,13 @@ pub enum Taken<K, V> {
     Job(Job<K, V>),
     /// There was no memory for the job.
     Memory,
+}
+
+/// What a worker gets back whose finish was refused for want of memory: what it handed in.
+#[derive(Drop)]
+pub struct NotFinished<V> {
+    /// The outputs and warnings, which are the same as before.
+    pub done: Done<V>,
 }
 
 /// The job of a node, with room for its inputs and none of them yet.

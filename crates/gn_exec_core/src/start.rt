@@ -38,7 +38,7 @@ fn slot_of<N: NodeSet, L>(
 }
 
 /// The values of links that lead to given values.
-fn row_of<N: NodeSet, L>(
+pub(crate) fn row_of<N: NodeSet, L>(
     nodes: &N,
     links: &[Link],
     given: &mut Vec<N::Value>,
@@ -64,6 +64,7 @@ pub(crate) fn rows_of<N: NodeSet, L>(
     meter: &mut Meter<L>,
 ) -> Result<Vec<Vec<Option<N::Value>>>, Memory>
     requires { All (λ at. All (λ link. CanCarry N.meanings (map N.content given.old.items) link) at.inputs.items) graph.now.nodes }
+    ensures same { map N.content given.new.items ≡ map N.content given.old.items }
     ensures values { IfOk result (λ rows. map (λ row. map (option_map N.content) row) (lists_of rows.items) ≡ map (λ at. map (start_value N.meanings (map N.content given.old.items)) at.inputs.items) graph.now.nodes) }
     ensures runs { meter.new.runs ≡ meter.old.runs }
 {

@@ -1,4 +1,4 @@
-ghost use Rattle.std.specs.Prelude.{◌≡◌, ◌<◌, ◌+◌, false, IfOk, OnOk, OnErr, Decides, length, map, option_map, slice_get};
+ghost use Rattle.std.specs.Prelude.{◌≡◌, ◌<◌, ◌+◌, false, IfOk, IfErr, OnOk, OnErr, Decides, length, map, option_map, slice_get};
 ghost use Rattle.std.specs.List.{list_any};
 ghost use Rattle.gn_exec_core.specs.States.{refused_by, any_refuses};
 ghost use Rattle.gn_lazy.specs.Graphs.{IsOrdered};
@@ -7,15 +7,20 @@ ghost use Rattle.gn_exec_laws.specs.Tasks.{task_of};
 ghost use Rattle.gn_exec_core.specs.Holds.{HaveConditions};
 ghost use Rattle.gn_exec_core.specs.Jobs.{Takes};
 ghost use Rattle.gn_exec_core.specs.Starts.{begun};
-ghost use Rattle.gn_nodes.specs.Values.{answer_of};
+ghost use Rattle.gn_exec_core.specs.Finishes.{MayFinish, finished_by};
+ghost use Rattle.gn_nodes.specs.Values.{answer_of, done_of};
 ghost use Rattle.gn_exec_core.specs.Waits.{IsBusy, AreFinished, NodeIs, WaitsFirst, MayServe, served_by};
 
-use crate::jobs::{Taken, answer_out, blank, choice_at, inputs_at, read_values, row_out};
-use crate::start::{choices_of, imports_of, numbered, rows_of};
+use crate::jobs::{
+    NotFinished, Taken, answer_out, blank, choice_at, inputs_at, read_values, row_out,
+};
+use crate::start::{choices_of, imports_of, numbered, row_of, rows_of};
+use gn_delivery::{choose_all, deliver, fill_all, plan_of};
 use gn_lazy::{Graph, GraphNode};
 use gn_memory::Memory;
-use gn_nodes::{Answer, NodeSet};
+use gn_nodes::{Answer, Done, NodeSet};
 use gn_pending::{are_flagged, empty_slots, first_flagged};
+use gn_readers::{Reader, readers_of};
 use gn_shared::Meter;
 use gn_uses::{Choice, Uses};
 use std::marker::Model;
@@ -71,6 +76,10 @@ pub struct ExecState<N: NodeSet> {
     unanswered: Vec<bool>,
     /// How many nodes are taken and not finished.
     running: usize,
+    /// Of each node the links that lead to its outputs.
+    readers: Vec<Vec<Reader>>,
+    /// The value of each root, once it is set.
+    roots: Vec<Option<N::Value>>,
 }
 
 impl<N: NodeSet> Model for ExecState<N> {
@@ -78,12 +87,14 @@ impl<N: NodeSet> Model for ExecState<N> {
     ghost use Rattle.gn_exec_core.specs.States.{State, seen, events_of, HasFlags, IsReached};
     ghost use Rattle.gn_exec_core.specs.Jobs.{Holds, lists_of};
     ghost use Rattle.gn_exec_core.specs.Waits.{Tallies};
+    ghost use Rattle.gn_exec_core.specs.Finishes.{HandsOn};
+    ghost use Rattle.gn_readers.specs.Readers.{lists_of as readers_in};
 
     ghost Value = { State N.Kind N.Value };
 
     ghost view = { λ s. seen s.graph s.given.value.items s.journal.items };
 
-    ghost invariant = { λ s. HasFlags s.refused.items (events_of s.journal.items) (vec_capacity s.journal) × IsReached N.meanings N.kind_of N.content (seen s.graph s.given.value.items s.journal.items) × Holds N.meanings N.kind_of N.content (seen s.graph s.given.value.items s.journal.items) s.uses s.choices.items (lists_of s.rows.items) s.answers.items × Tallies s.graph.nodes (events_of s.journal.items) s.uses.nodes s.done.items s.unanswered.items (length s.answers.items) s.running };
+    ghost invariant = { λ s. HasFlags s.refused.items (events_of s.journal.items) (vec_capacity s.journal) × IsReached N.meanings N.kind_of N.content (seen s.graph s.given.value.items s.journal.items) × Holds N.meanings N.kind_of N.content (seen s.graph s.given.value.items s.journal.items) s.uses s.choices.items (lists_of s.rows.items) s.answers.items × Tallies s.graph.nodes (events_of s.journal.items) s.uses.nodes s.done.items s.unanswered.items (length s.answers.items) s.running × HandsOn N.meanings N.kind_of N.content (seen s.graph s.given.value.items s.journal.items) (readers_in s.readers.items) s.roots.items };
 }
 
 impl<N: NodeSet> ExecState<N> {
@@ -117,6 +128,8 @@ impl<N: NodeSet> ExecState<N> {
         let answers = empty_slots(alloc, count)?;
         let done = vec![in alloc; false; count]?;
         let unanswered = imports_of(nodes, alloc, &graph)?;
+        let readers = readers_of(alloc, &graph)?;
+        let roots = row_of(nodes, graph.roots(), &mut given, meter)?;
         Ok(ExecState {
             graph,
             given: about,
@@ -129,6 +142,8 @@ impl<N: NodeSet> ExecState<N> {
             done,
             unanswered,
             running: 0,
+            readers,
+            roots,
         })
     }
 
@@ -219,6 +234,56 @@ impl<N: NodeSet> ExecState<N> {
         ensures { WaitsFirst N.meanings N.kind_of N.content self.now result }
     {
         first_flagged(&self.graph, &self.unanswered, self.uses.used())
+    }
+
+    /// A worker hands in what the run of a node gave, which is one event. Where the node is finished
+    /// already, nothing changes. A refusal changes nothing, and hands the same outputs and warnings back.
+    ///
+    /// Condition: the worker took the node, which is no zone, and its run gives this.
+    pub fn finish<L>(
+        &mut self,
+        nodes: &N,
+        worker: u32,
+        node: u64,
+        done: Done<N::Value>,
+        meter: &mut Meter<L>,
+    ) -> Result<(), NotFinished<N::Value>>
+        requires { MayFinish N.meanings N.kind_of N.content self.old worker node done }
+        ensures ok { OnOk result (self.new ≡ finished_by self.old worker node done.outputs.items) }
+        ensures err { IfErr result (λ back. (self.new ≡ self.old) × (done_of N.content back.done ≡ done_of N.content done)) }
+        ensures runs { meter.new.runs ≡ meter.old.runs }
+    {
+        let number = node as usize;
+        if self.done[number] {
+            return Ok(());
+        }
+        let about = Snapshot::of(&done.outputs);
+        let Done {
+            mut outputs,
+            warnings,
+        } = done;
+        let readers = &self.readers[number];
+        let Ok(plan) = plan_of(nodes, &self.graph, readers, &mut outputs, meter) else {
+            return Err(NotFinished {
+                done: Done { outputs, warnings },
+            });
+        };
+        if self.journal.reserve(65).is_err() {
+            return Err(NotFinished {
+                done: Done { outputs, warnings },
+            });
+        }
+        choose_all(&mut self.uses, &mut self.choices, &plan.choices);
+        fill_all(&mut self.uses, &self.readers[number]);
+        deliver(&mut self.rows, &mut self.roots, plan, outputs);
+        self.done[number] = true;
+        self.running -= 1;
+        self.journal.push_reserved(Happened::Finish {
+            worker,
+            node,
+            outputs: about,
+        });
+        Ok(())
     }
 
     /// Hands an import its answer, which is one event. A refusal changes nothing.

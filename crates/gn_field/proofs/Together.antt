@@ -58,7 +58,7 @@ module _ {S : Type 0} where
 
 module _ {S : Type 0} (sources : Sources S) (taken : S → ValueKind) where
   mutual
-    subtree_kinds : (e s : Expr S) → HasKinds sources taken e → Has (subtrees e) s → HasKinds sources taken s
+    pub subtree_kinds : (e s : Expr S) → HasKinds sources taken e → Has (subtrees e) s → HasKinds sources taken s
     subtree_kinds (constant v) s h (inl q) = subst (HasKinds sources taken) (sym q) tt
     subtree_kinds (constant v) s h (inr k) = absurd k
     subtree_kinds (input x) s h (inl q) = subst (HasKinds sources taken) (sym q) tt

@@ -1,5 +1,6 @@
 // Fields, each kept as the list of its different subtrees.
 ghost use Rattle.std.specs.Prelude.{ℕ, true, ◌≡◌, ◌<◌, ◌≤◌, ◌+◌, ◌-◌, slice_index, ◌^◌, length, map, [], ◌∷◌, ◌++◌, IfOk, IfErr, OnOk};
+ghost use Rattle.std.specs.List.{All};
 ghost use Rattle.gn_value.specs.Operations.{Takes};
 ghost use Rattle.gn_plain.specs.Fields.{constant, input as input_of, apply, elsewhere, sampled, varies, kind_of_field};
 ghost use Rattle.gn_plain.specs.Subtrees.{count_different};
@@ -412,12 +413,14 @@ impl<S: Source> Field<S> {
     }
 
     /// The field's different subtrees: each names earlier ones by their places, and the last is the
-    /// field. No two are the same, and arguments have the kinds that are taken.
+    /// field. No two are the same, there are at most 4,096, and arguments have the kinds that are taken.
     pub fn steps(&self) -> &[FieldStep<S>]
         ensures field { last_of (built result.now) ≡ self.now }
         ensures count { length result.now ≡ count_different (self.now ∷ []) }
         ensures merged { IsMerged result.now }
         ensures kinds { HasKinds S.sources S.taken self.now }
+        ensures few { length result.now ≤ 4096 }
+        ensures each { All (HasKinds S.sources S.taken) (built result.now) }
     {
         self.steps.as_slice()
     }

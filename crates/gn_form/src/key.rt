@@ -129,7 +129,7 @@ fn node_member(row: Option<&'static Row>, key: &str) -> Option<Form>
     None
 }
 
-/// Returns what must stand under a key of an object, and `None` for a key that the object doesn't have.
+/// Returns what must be under a key of an object, and `None` for a key that the object doesn't have.
 /// `row` is the row of a node's kind.
 pub(crate) fn member_form(form: Form, row: Option<&'static Row>, key: &str) -> Option<Form>
     ensures { option_map form_of result

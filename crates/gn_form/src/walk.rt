@@ -93,7 +93,7 @@ fn first_member(
     Ok(None)
 }
 
-/// Returns the first pointer of a tree at which what stands there is not of its form, and `None` where
+/// Returns the first pointer of a tree at which what is there is not of its form, and `None` where
 /// all is of its form. An object stands before its members, elements go by index, keys by their bytes.
 ///
 /// # Errors

@@ -109,7 +109,7 @@ impl Geometry {
         }
     }
 
-    /// How deep instances stand in instances: 0 without parts, and 2^32 - 1 where it is more.
+    /// How deep instances are nested: 0 without parts, and 2^32 - 1 where it is more.
     pub fn depth(&self) -> u32
         ensures { result ≡ min (depth self.now) (2 ^ 32 - 1) }
     {

@@ -9,7 +9,7 @@ use std::marker::Model;
 /// A sink into memory that was taken beforehand.
 ///
 /// Its calls are numbered from 1, and the number stops at 2^64 - 1. A call fails where its number
-/// stands in the list, beside the most that it takes; the first entry of a number counts. Another
+/// is in the list, beside the most that it takes; the first entry of a number counts. Another
 /// call fails where its piece is longer than the room that is left, and takes what fits.
 #[derive(Drop)]
 pub struct MemSink {

@@ -67,7 +67,7 @@ fn links_or_vector(alloc: Global, value: &Value, items: &[Value]) -> Result<Tree
     })
 }
 
-/// What stands at an input.
+/// What an input has.
 pub(crate) fn input_in(alloc: Global, value: &Value) -> Result<TreeInput, Memory>
     ensures { IfOk result (λ input. seen.input_of input ≡ typed.input_in (view value.now)) }
 {

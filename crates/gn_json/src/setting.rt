@@ -123,7 +123,7 @@ fn has_zone(forms: &'static [SettingForm]) -> bool
     false
 }
 
-/// The settings of a kind from the value of `set` and the nodes that stand there.
+/// The settings of a kind from the value of `set` and the nodes that are there.
 #[tactic(auto, using(crate::proofs::Lists::settings_push))]
 pub(crate) fn settings_in(
     alloc: Global,

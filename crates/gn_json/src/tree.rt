@@ -128,11 +128,11 @@ fn judge(
     }
 }
 
-/// Reads a tree from the bytes of its JSON text. All that is in the tree stands in the text: the value
+/// Reads a tree from the bytes of its JSON text. All that is in the tree is in the text: the value
 /// of each key that must be there, of its shape. The tree is of its form: the names and the kinds in it
-/// are ones that may stand there, the settings of a node are those of its kind's row, in their order and
+/// are ones that may be there, the settings of a node are those of its kind's row, in their order and
 /// with values that the row allows, and the inputs of each node, and what each zone and each group gives
-/// out, stand in the order of their names' bytes.
+/// out, are in the order of their names' bytes.
 ///
 /// # Errors
 ///

@@ -12,7 +12,7 @@ use gn_registers::{Arguments, OfKind, set_all};
 use gn_value::op::Register;
 use gn_value::{Fx, V3, Value};
 
-/// The value where a choice is a case, and else what stands there.
+/// The value where a choice is a case, and else what is there.
 #[tactic(auto, unfolding(crate::specs::Choices::picked))]
 fn picked<T: Copy>(case: u32, choice: i32, value: T, old: T) -> T
     ensures { result ≡ picked case choice value old }

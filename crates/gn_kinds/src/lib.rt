@@ -2,7 +2,7 @@
 //!
 //! A kind is a row, and all that reads, checks or runs trees goes by the rows. `sections` promises that
 //! the code's table is the one that the definitions spell, and `find_row` that a kind is found by its
-//! name exactly where it has a row. The kinds of sockets stand here too, with their names and those
+//! name exactly where it has a row. The kinds of sockets are here too, with their names and those
 //! of places. The crate stands on the values of `gn_value` alone.
 #![tactic(auto)]
 

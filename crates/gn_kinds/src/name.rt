@@ -4,7 +4,7 @@ ghost use Rattle.gn_kinds.specs.Names as names;
 use crate::row::SocketKind;
 use gn_value::Place;
 
-/// The name of a kind, as it stands in a tree.
+/// The name of a kind, as a tree has it.
 pub fn kind_name(kind: SocketKind) -> &'static str
     ensures { result.now ≡ names.kind_name kind }
 {
@@ -17,7 +17,7 @@ pub fn kind_name(kind: SocketKind) -> &'static str
     }
 }
 
-/// The name of a place, as it stands in a tree.
+/// The name of a place, as a tree has it.
 pub fn place_name(place: Place) -> &'static str
     ensures { result.now ≡ names.place_name place }
 {

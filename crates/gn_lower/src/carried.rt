@@ -40,7 +40,7 @@ pub(crate) struct Carried {
     pub(crate) through: SmallVec<u8, 4, Global>,
 }
 
-/// The origin of a source in a graph, whose constant stands behind those of the graph.
+/// The origin of a source in a graph, whose constant is behind those of the graph.
 fn origin_of(source: Source, constants: &mut Vec<Constant>) -> Result<Origin, Memory>
     ensures { IfOk result (λ origin. (nodes : List (GraphNode Kind)) → IsOrigin nodes source constants.old.items constants.new.items origin) }
 {

@@ -68,7 +68,7 @@ fn graph_of(
 
 /// The graph of a tree, with its constants: groups are unfolded, the body of a zone is left in its kind, and
 /// links lead through groups, with a conversion at each socket on the way whose kind is another. It gives out
-/// what the tree does. Its nodes stand in one order: those of a list by rank and then by number, and in the
+/// what the tree does. Its nodes are in one order: those of a list by rank and then by number, and in the
 /// place of a group node the nodes of its group.
 pub fn lower(alloc: Global, tree: &GoodTree) -> Result<Lowered, Memory>
     ensures { IfOk result (λ lowered. Lowers (tree_in tree.now) lowered.graph lowered.constants.items) }

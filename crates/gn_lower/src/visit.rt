@@ -80,7 +80,7 @@ impl<'s, 't> Visit<'s, 't> {
         }
     }
 
-    /// What stands at a site of the list comes from there.
+    /// What a site of the list has comes from there.
     fn came(&self, alloc: Global, site: Site) -> Result<Carried, Memory>
         requires { IsSome (came_from self.now site) }
         ensures { IfOk result (λ carried. came_from self.now site ≡ Some (came_of carried)) }

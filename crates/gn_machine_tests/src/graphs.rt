@@ -1,10 +1,10 @@
-ghost use Rattle.std.specs.Prelude.{◌≡◌, ◌≢◌, [], true, length, IfOk, IfSome};
+ghost use Rattle.std.specs.Prelude.{◌≡◌, ◌≢◌, ◌<◌, [], true, length, IfOk, IfSome};
 ghost use Rattle.gn_lazy.specs.Graphs.{IsOrdered};
 ghost use Rattle.gn_machine_tests.specs.declared.numbers.NumberKind.TheVariants.{Choose, Repeat};
 ghost use Rattle.gn_machine_tests.specs.Named.{AreNamed, one_step};
 
-use crate::numbers::{NumberKind, Numbers};
-use gn_exec_core::ExecState;
+use crate::numbers::{NumberKind, Numbers, done_by};
+use gn_exec_core::{ExecState, Taken};
 use gn_lazy::{Graph, GraphNode, Link, Origin, Path, PathStep};
 use gn_memory::Memory;
 use gn_nodes::{Answer, handed};
@@ -156,6 +156,31 @@ pub fn serve_next(state: &mut ExecState<Numbers>, answer: Answer) -> Option<u64>
     let node = state.waiting()?;
     match state.serve(node, answer) {
         Ok(_) => Some(node),
+        Err(_) => None,
+    }
+}
+
+/// A worker takes what is next and hands in what its run gives: the number of the node, and the values of
+/// its inputs. It is `None` where there is nothing to take, where that is a zone, and for want of memory.
+pub fn run_next<L>(
+    state: &mut ExecState<Numbers>,
+    worker: u32,
+    meter: &mut Meter<L>,
+) -> Option<(u64, Vec<u64>)>
+    requires { worker < 64 }
+{
+    let Taken::Job(job) = state.take(&Numbers, worker) else {
+        return None;
+    };
+    if matches!(job.kind, NumberKind::Repeat) {
+        return None;
+    }
+    let alloc = *job.inputs.allocator();
+    let Ok(done) = done_by(alloc, job.kind, &job.inputs, &job.answer) else {
+        return None;
+    };
+    match state.finish(&Numbers, worker, job.node, done, meter) {
+        Ok(_) => Some((job.node, job.inputs)),
         Err(_) => None,
     }
 }

@@ -1,4 +1,4 @@
-use crate::graphs::{carried, choosing, serve_next, started};
+use crate::graphs::{carried, choosing, run_next, serve_next, started};
 use crate::numbers::Numbers;
 use gn_exec_core::{ExecState, Taken};
 use gn_nodes::Answer;
@@ -14,6 +14,8 @@ struct Seal;
 enum Act {
     // A worker takes this node, whose run gets this number of inputs, the first of them being this.
     Takes(u32, u64, &'static [u64]),
+    // A worker takes this node, whose run gets these inputs, and hands in what that gives.
+    Runs(u32, u64, &'static [u64]),
     // The worker finds nothing to take.
     TakesNothing(u32),
     // The import that waits, which gets these bytes.
@@ -38,6 +40,20 @@ fn takes(state: &mut ExecState<Numbers>, worker: u32, node: u64, inputs: &[u64])
         return None;
     };
     when(job.node == node && job.inputs.as_slice() == inputs)
+}
+
+// Nothing is copied for it.
+fn runs(state: &mut ExecState<Numbers>, worker: u32, node: u64, inputs: &[u64]) -> Option<()> {
+    if worker >= 64 {
+        return None;
+    }
+    let mut meter = Meter::new(Seal);
+    let ran = run_next(state, worker, &mut meter);
+    if meter.spend(Seal) != (0, 0) {
+        return None;
+    }
+    let (number, values) = ran?;
+    when(number == node && values.as_slice() == inputs)
 }
 
 fn takes_nothing(state: &mut ExecState<Numbers>, worker: u32) -> Option<()> {
@@ -66,6 +82,7 @@ fn refuses(state: &mut ExecState<Numbers>, worker: u32) -> Option<()> {
 fn perform(alloc: Global, state: &mut ExecState<Numbers>, act: Act) -> Option<()> {
     match act {
         Act::Takes(worker, node, inputs) => takes(state, worker, node, inputs),
+        Act::Runs(worker, node, inputs) => runs(state, worker, node, inputs),
         Act::TakesNothing(worker) => takes_nothing(state, worker),
         Act::Serves(node, text) => serves(alloc, state, node, text),
         Act::Refuses(worker) => refuses(state, worker),
@@ -133,11 +150,41 @@ const IMPORT: [Act; 7] = [
     Act::Takes(0, 0, &[]),
 ];
 
+// Node 1 adds, node 2 hands its sum on, and the zone gets it as its count.
+const SUM: [Act; 8] = [
+    Act::Runs(3, 1, &[2, 3]),
+    Act::Is(false, false, false),
+    Act::Runs(4, 2, &[0, 5]),
+    Act::Is(false, false, false),
+    Act::Waits(None),
+    Act::Takes(3, 3, &[5]),
+    Act::Is(true, false, false),
+    Act::TakesNothing(4),
+];
+
+// The length of a file goes through the choice to the zone.
+const LENGTH: [Act; 7] = [
+    Act::Serves(0, b"three"),
+    Act::Runs(9, 0, &[]),
+    Act::Waits(None),
+    Act::Runs(9, 2, &[7, 5]),
+    Act::Refuses(8),
+    Act::TakesNothing(9),
+    Act::Is(false, false, true),
+];
+
 const REFUSED: [Act; 3] = [
     Act::Refuses(63),
     Act::Is(false, false, true),
     Act::TakesNothing(0),
 ];
+
+#[test]
+fn a_finished_node_hands_its_output_on(rt: HostRuntime) -> Result<(), Fail> {
+    assert!(rt; all(rt.alloc(), 0, &SUM));
+    assert!(rt; all(rt.alloc(), 7, &LENGTH));
+    Ok(())
+}
 
 #[test]
 fn nodes_are_taken_as_they_get_ready(rt: HostRuntime) -> Result<(), Fail> {

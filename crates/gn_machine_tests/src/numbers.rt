@@ -1,4 +1,4 @@
-ghost use Rattle.std.specs.Prelude.{◌≡◌, ◌<◌, ◌+◌, ◌-◌, ◌^◌, All, IfOk, true, map, option_map, slice_index_or};
+ghost use Rattle.std.specs.Prelude.{◌≡◌, ◌<◌, ◌+◌, ◌-◌, ◌^◌, [], ◌∷◌, All, IfOk, true, map, option_map, slice_index_or};
 ghost use Rattle.gn_nodes.specs.Values.{answer_of, done_of};
 ghost use Rattle.gn_nodes.specs.Calls.{NoCopy};
 ghost use Rattle.gn_machine_tests.specs.Numbers.{rows, length_of as length_meant, number_of as number_meant};
@@ -8,6 +8,7 @@ use gn_memory::Memory;
 use gn_nodes::{Answer, Choice, Done, NodeSet, Opened, Role};
 use gn_shared::Meter;
 use smallvec::SmallVec;
+use std::alloc::Global;
 use std::thread::Threads;
 
 /// What a node does with numbers.
@@ -133,13 +134,7 @@ impl NodeSet for Numbers {
         ensures sole { IfOk result (λ done. All (λ output. true ≡ true) done.outputs.items) }
     {
         meter.note_run();
-        let alloc = *inputs.allocator();
-        let mut outputs = Vec::with_capacity(alloc, 1)?;
-        outputs.push(number_of(*kind, &inputs, &answer))?;
-        Ok(Done {
-            outputs,
-            warnings: Vec::new(alloc),
-        })
+        done_by(*inputs.allocator(), *kind, &inputs, &answer)
     }
 }
 
@@ -161,7 +156,7 @@ fn length_of(answer: &Option<Answer>) -> u64
 }
 
 /// The output of a node.
-pub(crate) fn number_of(kind: NumberKind, inputs: &[u64], answer: &Option<Answer>) -> u64
+fn number_of(kind: NumberKind, inputs: &[u64], answer: &Option<Answer>) -> u64
     ensures { result ≡ number_meant kind inputs.now (option_map answer_of answer.now) }
 {
     match kind {
@@ -170,4 +165,21 @@ pub(crate) fn number_of(kind: NumberKind, inputs: &[u64], answer: &Option<Answer
         NumberKind::Measure => length_of(answer),
         NumberKind::Repeat => input_at(inputs, 0),
     }
+}
+
+/// What a run of a node gives.
+pub(crate) fn done_by(
+    alloc: Global,
+    kind: NumberKind,
+    inputs: &[u64],
+    answer: &Option<Answer>,
+) -> Result<Done<u64>, Memory>
+    ensures { IfOk result (λ done. done_of (λ value. value) done ≡ record { outputs = number_meant kind inputs.now (option_map answer_of answer.now) ∷ []; warnings = [] }) }
+{
+    let mut outputs = Vec::with_capacity(alloc, 1)?;
+    outputs.push(number_of(kind, inputs, answer))?;
+    Ok(Done {
+        outputs,
+        warnings: Vec::new(alloc),
+    })
 }

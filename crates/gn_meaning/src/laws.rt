@@ -27,7 +27,7 @@ pub fn sites_have_one_origin()
     ensures { SitesHaveOneOrigin }
 {}
 
-/// No two values stand at a site, and no run chooses two things or ends in two ways.
+/// No site has two values, and no run chooses two things or ends in two ways.
 pub fn meanings_are_one<K: KindRows>()
     ensures { MeaningsAreOne K.rows }
 {}

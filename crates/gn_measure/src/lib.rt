@@ -1,4 +1,4 @@
-//! How high zones stand in one another, and how many nodes a tree has with its groups unfolded.
+//! How deep zones are nested, and how many nodes a tree has with its groups unfolded.
 //!
 //! The definitions are plain numbers without bounds (`Measures` in `gn_rules`). `Measures` finds them
 //! group by group, each once and without unfolding, and promises to say exactly whether a node is

@@ -77,7 +77,7 @@ static ROUND_MODES: [(&str, RoundMode); 4] = [
     ("truncate", RoundMode::Truncate),
 ];
 
-/// What stands beside the first of these names that is the text.
+/// What is paired with the first of these names that is the text.
 fn find_named<T: Copy>(list: &[(&'static str, T)], name: &str) -> Option<T>
     ensures { result ≡ named_in (map (λ x. (x.0.now, x.1)) list.now) name.now }
 {

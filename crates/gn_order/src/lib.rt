@@ -1,4 +1,4 @@
-//! The order in which the nodes of a list stand in a graph: each behind all nodes that it links to.
+//! The order in which the nodes of a list are in a graph: each behind all nodes that it links to.
 //!
 //! The rank of a node is the length of the longest walk from it along links. `by_rank` gives all nodes
 //! by rank, and those of one rank by number, in time that is linear in nodes and links; it promises the

@@ -19,7 +19,7 @@ pub(crate) enum Constant {
     NoGeometry,
 }
 
-/// Where a value stands, seen from a list of nodes.
+/// Where a value is, seen from a list of nodes.
 #[derive(Clone, Copy)]
 pub(crate) enum Site<'s, 't> {
     /// An output of a group node, by its number, with its socket.
@@ -41,7 +41,7 @@ pub(crate) enum Site<'s, 't> {
     Constant(Constant),
 }
 
-/// What an input reads: where the value stands, and the kind of the input's socket where it is another.
+/// What an input reads: where the value is, and the kind of the input's socket where it is another.
 #[derive(Clone, Copy)]
 pub(crate) struct Read<'s, 't> {
     pub(crate) site: Site<'s, 't>,

@@ -19,7 +19,7 @@ pub(crate) struct Frame<'s, 't> {
     pub(crate) group: &'s GroupList<'t>,
 }
 
-/// Where a walk along links stands.
+/// Where a walk along links is.
 #[derive(Drop)]
 pub(crate) struct Walk<'s, 't> {
     pub(crate) lists: &'s Lists<'t>,

@@ -1,4 +1,4 @@
-//! The types whose values stand in registers.
+//! The types whose values are in registers.
 ghost use Rattle.std.specs.Prelude.{◌≡◌, ◌<◌, ℕ, ℤ, false, length, pos, slice_index_or};
 ghost use Rattle.gn_value.specs.Registers.{register_kind, register_len, register_value};
 ghost use Rattle.gn_value.specs.Rows.{fixed_in, int_in, truth_in, vector_in};

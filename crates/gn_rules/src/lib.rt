@@ -1,6 +1,6 @@
 //! The rules F2 to F7 of a tree, as definitions.
 //!
-//! `specs` says what stands at each pointer of a tree (`Things`), which rules a thing breaks by itself
+//! `specs` says what is at each pointer of a tree (`Things`), which rules a thing breaks by itself
 //! (`Rules`), and which rule and pointer are named (`IsNamed`): the least rule that is broken anywhere,
 //! at the first pointer where it is. `Walk` defines the same as a way through the tree,
 //! and `named_tells` in `proofs` states that both agree. The rules stand on the trees of `gn_tree`, the table

@@ -4,7 +4,7 @@ ghost use Rattle.gn_rules.specs.Number.{number_of};
 /// A rule of trees that are of their form, named by its number.
 #[derive(Clone, Copy, Debug, PartialEq, Eq)]
 pub enum Rule {
-    /// F2: no name stands twice in its list or is one that links use.
+    /// F2: no name is twice in its list or is one that links use.
     Names,
     /// F3: links, names of groups and keys name what is there.
     Links,
@@ -12,7 +12,7 @@ pub enum Rule {
     Kinds,
     /// F5: no node leads back to itself.
     Order,
-    /// F6: zones stand in zones at most twice.
+    /// F6: zones are nested in zones at most twice.
     Height,
     /// F7: there are at most 16,384 nodes.
     Count,

@@ -2,7 +2,7 @@
 //!
 //! A `Scope` is a list of nodes as the rules of `gn_rules` look at it (`scope_of`). It promises what the
 //! output carries that a link leads from (`source`), which inputs a node has (`inputs_of`), whether a group
-//! stands above (`is_above`), and whether a node leads back to itself (`is_on_cycle`). `Groups` and
+//! is above (`is_above`), and whether a node leads back to itself (`is_on_cycle`). `Groups` and
 //! `Sockets` keep the groups of a tree, and the sockets of a group or a zone, by their names. Names are
 //! looked up in a map that is made for each list: no link and no key costs a walk over a list. The crate
 //! stands on the definitions of `gn_rules`, on the trees of `gn_tree`, on the look-ups of `gn_names`, the

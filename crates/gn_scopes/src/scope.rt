@@ -44,7 +44,7 @@ pub struct Inputs<'s, 't> {
 }
 
 /// A list of nodes, with what the links in it may name, and with what the rules look at.
-/// `'t` is the lifetime of the tree, and `'s` that of what stands around the list.
+/// `'t` is the lifetime of the tree, and `'s` that of what is around the list.
 #[derive(Drop)]
 pub struct Scope<'s, 't> {
     /// The rules that are looked for.
@@ -57,7 +57,7 @@ pub struct Scope<'s, 't> {
     graph: Graph,
     pub entries: Entries<'s, 't>,
     pub groups: &'s Groups<'t>,
-    /// How many of the groups stand above.
+    /// How many of the groups are above.
     pub above: usize,
     ghost with_ids: { ids ≡ named.ids (nodes_of nodes.now.items) },
     ghost with_items: { lists_in items.items ≡ map items_of_node nodes.now.items },
@@ -234,7 +234,7 @@ impl<'s, 't> Scope<'s, 't> {
         }
     }
 
-    /// Whether a group with that name stands above.
+    /// Whether a group with that name is above.
     pub fn is_above(&self, name: &str) -> bool
         ensures { result ≡ scopes.is_above (scope_of self.now) name.now }
     {

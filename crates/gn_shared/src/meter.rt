@@ -63,7 +63,7 @@ impl<L> Meter<L> {
         self.runs += 1;
     }
 
-    /// Notes one copy of an array. At 2^64 - 1 the number of copies stands still.
+    /// Notes one copy of an array. At 2^64 - 1 the number of copies stays.
     pub fn note_copy(&mut self)
         ensures { self.new ≡ with_copy self.old }
     {

@@ -87,7 +87,7 @@ impl Model for Tables {
     ghost invariant = { λ t. IsCounted (record { blocks = t.blocks.items; handles = t.handles.items; used = t.used.items }) };
 }
 
-// Where the first handle of the holder stands.
+// Where the first handle of the holder is.
 fn place_in(handles: &[Handle], holder: u64) -> Option<usize>
     ensures { result ≡ position (λ h. h.holder == holder) handles.now }
 {

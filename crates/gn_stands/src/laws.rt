@@ -34,7 +34,7 @@ pub fn found_zones_open<N: TreeMeanings>()
     ensures { FoundZonesOpen N.meanings }
 {}
 
-/// In the order by rank each node stands once, behind all nodes that it leads to, where no node leads
+/// In the order by rank each node is there once, behind all nodes that it leads to, where no node leads
 /// back to itself.
 pub fn ranks_order_back()
     ensures { RanksOrderBack }

@@ -8,7 +8,7 @@ ghost use Rattle.gn_table.specs.Reads.{kinds_of, read_of, site_of};
 use crate::constant::Constant;
 use gn_kinds::SocketKind;
 
-/// Where a value stands that is read in a list of nodes.
+/// Where a value is that is read in a list of nodes.
 #[derive(Clone, Copy)]
 pub enum Site {
     /// An output of a node of the list, both by their numbers.
@@ -17,7 +17,7 @@ pub enum Site {
     Entry { number: usize },
     /// A constant.
     Constant { constant: Constant },
-    /// No value stands here. A link that leads from nothing reads it, which no tree that keeps the rules
+    /// No value is here. A link that leads from nothing reads it, which no tree that keeps the rules
     /// has.
     Nowhere,
 }

@@ -64,7 +64,7 @@ pub(crate) fn find_behind(
 }
 
 /// The number and the kind of the input of that name in the body of a zone with these items. In front of
-/// the items stands the number of the turn.
+/// the items is the number of the turn.
 #[tactic(auto, using(crate::proofs::Finding::found_first, crate::proofs::Finding::found_later))]
 pub(crate) fn find_item(items: &Sockets<'_>, name: &str) -> Option<(usize, SocketKind)>
     ensures { result ≡ find_in (zone_entries (sockets_in items.now)) name.now }

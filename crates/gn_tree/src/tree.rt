@@ -30,7 +30,7 @@ pub struct Socket {
     pub kind: SocketKind,
 }
 
-/// What stands at an input.
+/// What an input has.
 #[derive(Drop)]
 pub enum TreeInput {
     Constant { value: Value },
@@ -38,14 +38,14 @@ pub enum TreeInput {
     Links { links: Vec<TreeLink> },
 }
 
-/// A link from an output of a node, or from an input of the list that it stands in.
+/// A link from an output of a node, or from an input of the list that it is in.
 #[derive(Drop)]
 pub struct TreeLink {
     pub from: String,
     pub socket: String,
 }
 
-/// A node. Its settings stand in the order of its kind's row, its inputs in that of the names' bytes.
+/// A node. Its settings are in the order of its kind's row, its inputs in that of the names' bytes.
 #[cycle(tree)]
 #[derive(Drop)]
 pub struct Node {

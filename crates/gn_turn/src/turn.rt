@@ -43,7 +43,7 @@ fn slots_of<S: Guarded>(alloc: Global, state: S) -> Result<Vec<Option<S>>, NoTur
     }
 }
 
-/// Returns the state that stands in the slots.
+/// Returns the state that is in the slots.
 fn state_of<S: Guarded>(mut slots: Vec<Option<S>>) -> S
     requires { (x : S) × (slots.items ≡ Some x ∷ []) }
     ensures { slots.items ≡ Some result ∷ [] }

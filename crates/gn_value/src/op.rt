@@ -1,4 +1,4 @@
-//! The operations on values, and what stands beside them: registers of values, and the topology
+//! The operations on values, and what goes with them: registers of values, and the topology
 //! of a mesh.
 ghost use Rattle.std.specs.Prelude.{◌≡◌};
 ghost use Rattle.gn_value.specs.Operations.{gives, vector_math_gives};
@@ -115,7 +115,7 @@ pub enum Axis {
     Z,
 }
 
-/// An operation on the values of its arguments, which stand in the order named here.
+/// An operation on the values of its arguments, in the order named here.
 #[derive(Clone, Copy, Debug, PartialEq, Eq, PartialOrd, Ord, Hash)]
 pub enum Op {
     /// Of fixed numbers.
@@ -126,7 +126,7 @@ pub enum Op {
     VectorMath { op: VectorMathOp },
     /// Of truths.
     BooleanMath { op: BooleanMathOp },
-    /// Whether a stands to b as `op` says.
+    /// Whether a is to b as `op` says.
     Compare { kind: CompareKind, op: CompareOp },
     /// Of value, min and max: the lesser of max and the greater of value and min.
     Clamp,

@@ -1,15 +1,16 @@
 use Rattle.std.proofs.Common.{◌≡◌, ◌≤◌, [], length, map, None, true, false, replicate, sym, ap, subst, ◌∙◌, arith}
 use Rattle.std.specs.Vec.{vec_capacity}
-use Rattle.std.specs.Prelude.{option_map, is_some, slice_index_or}
+use Rattle.std.specs.Prelude.{All, option_map, is_some, slice_index_or}
 use Rattle.std.proofs.lemmas.List.{length-map, length-replicate}
 use Rattle.gn_exec_core.specs.States.{events_of, seen}
+use Rattle.gn_readers.specs.Readers.{lists_of as readers_in}
 use Rattle.gn_exec_core.specs.Jobs.{lists_of}
-use Rattle.gn_exec_core.specs.Starts.{start_value, HasNumbers}
+use Rattle.gn_exec_core.specs.Starts.{start_value, CanCarry, HasNumbers}
 use Rattle.gn_exec_core.specs.Waits.{Tallies}
 use Rattle.gn_exec_core.proofs.Tallying.{tallied_first, no_other}
 use Rattle.gn_exec_core.proofs.Serving.{still_holds}
-use Rattle.gn_exec_core.proofs.Starting.{all_carry, each_may_choose, chosen_switch}
-use Rattle.gn_exec_core.proofs.Beginning.{rows_counted, begun_all, seen_begun}
+use Rattle.gn_exec_core.proofs.Starting.{all_carry, roots_carry, each_may_choose, chosen_switch}
+use Rattle.gn_exec_core.proofs.Beginning.{begun_hands, rows_counted, begun_all, seen_begun}
 use Rattle.gn_exec_core.proofs.state.ExecState.new.Goals as goal
 
 pub rows_of-requires-after_bounds : goal.rows_of-requires-after_bounds
@@ -35,6 +36,13 @@ numbered-requires-clause-chosen g c keys lives n at e some =
     chosen_switch g.N.NodeSet.meanings g.N.NodeSet.kind_of g.N.NodeSet.content c.args.graph (map g.N.NodeSet.content c.args.given.items) g.N.NodeSet.lawful c.requires.start count c.look_at.ensures (lists_of c.in_ok-rows.rows.items) c.in_ok-choices.choices.items c.in_ok-choices.ensures.chosen n at e
     (subst (λ os. is_some (slice_index_or os n None) ≡ true) c.deref.ensures.value some)
 
+pub row_of-requires-after_bounds : goal.row_of-requires-after_bounds
+row_of-requires-after_bounds g c keys lives =
+    let count = length-map c.args.given.items g.N.NodeSet.content ∙ c.requires.given in
+    subst (λ ls. All (λ l. CanCarry g.N.NodeSet.meanings (map g.N.NodeSet.content c.rows_of.new.given.items) l) ls) (sym c.roots.ensures.links)
+    (subst (λ gs. All (λ l. CanCarry g.N.NodeSet.meanings gs l) c.args.graph.roots) (sym c.in_ok-rows.ensures.same)
+    (roots_carry g.N.NodeSet.meanings g.N.NodeSet.kind_of g.N.NodeSet.content c.args.graph (map g.N.NodeSet.content c.args.given.items) g.N.NodeSet.lawful c.requires.start count c.look_at.ensures))
+
 pub invariant_of-result : goal.invariant_of-result
 invariant_of-result g c =
     let are = subst (λ os. HasNumbers g.N.NodeSet.meanings g.N.NodeSet.kind_of c.args.graph.nodes os c.in_ok-uses.uses.nodes) c.deref.ensures.value c.in_ok-uses.ensures.nodes in
@@ -50,6 +58,8 @@ invariant_of-result g c =
       all.1,
       still_holds g.N.NodeSet.meanings g.N.NodeSet.kind_of g.N.NodeSet.content (seen c.args.graph c.of-about.result.value.items c.in_ok-journal.journal.items) c.in_ok-uses.uses c.in_ok-choices.choices.items (lists_of c.in_ok-rows.rows.items) [] c.in_ok-answers.answers.items all.2 (λ k. ap (λ os. slice_index_or os k None) c.in_ok-answers.ensures ∙ no_other None c.len-count.result k),
       subst (λ j. Tallies c.args.graph.nodes (events_of j) c.in_ok-uses.uses.nodes c.in_ok-done.done.items c.in_ok-unanswered.unanswered.items (length c.in_ok-answers.answers.items) 0) (sym c.in_ok-journal.ensures.items) tallies,
+      begun_hands g.N.NodeSet.meanings g.N.NodeSet.kind_of g.N.NodeSet.content c.args.graph c.args.given.items c.of-about.result.value.items c.look_at.ensures (readers_in c.in_ok-readers.readers.items) c.in_ok-roots.roots.items c.in_ok-journal.journal.items c.in_ok-readers.ensures
+          (c.in_ok-roots.ensures.values ∙ ap (λ gs. map (start_value g.N.NodeSet.meanings gs) c.roots.result.now) c.in_ok-rows.ensures.same ∙ ap (map (start_value g.N.NodeSet.meanings (map g.N.NodeSet.content c.args.given.items))) c.roots.ensures.links) is c.in_ok-journal.ensures.items,
     )
 
 pub returns-clause-state : goal.returns-clause-state

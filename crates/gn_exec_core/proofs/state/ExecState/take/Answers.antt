@@ -8,11 +8,13 @@ use Rattle.gn_node_set.specs.Meanings.{selected}
 use Rattle.gn_uses.specs.Nodes.{role_of, choice_of}
 use Rattle.gn_exec_core.specs.Holds.{present}
 use Rattle.gn_exec_core.specs.Jobs.{lists_of}
+use Rattle.gn_readers.specs.Readers.{lists_of as readers_in}
+use Rattle.gn_exec_core.specs.Finishes.{HandsOn}
 use Rattle.gn_exec_core.specs.Waits.{Tallies}
 use Rattle.gn_exec_core.proofs.Refusals.{any_flagged, events_push, events_counted}
 use Rattle.gn_exec_core.proofs.Tallying.{tallied_take, running_within}
 use Rattle.gn_exec_core.proofs.Taking.{seen_take}
-use Rattle.gn_exec_core.proofs.Handing.{with_take, takes_first, may_take, none_now, node_there, kept_all, taken_all, job_is}
+use Rattle.gn_exec_core.proofs.Handing.{hands_taken, with_take, takes_first, may_take, none_now, node_there, kept_all, taken_all, job_is}
 use Rattle.gn_exec_core.proofs.Adding.{node_at}
 use Rattle.gn_exec_core.proofs.state.ExecState.take.Goals as goal
 
@@ -29,8 +31,13 @@ unreachable-requires g c =
 
 pub invariant_of-self : goal.invariant_of-self
 invariant_of-self g c =
-    let all = kept_all g.N.NodeSet.meanings g.N.NodeSet.kind_of g.N.NodeSet.content c.self.inside.graph c.self.inside.given.value.items c.self.inside.journal.items c.self.inside.refused.items (vec_capacity c.self.inside.journal) c.self.inside.uses c.self.inside.choices.items (lists_of c.self.inside.rows.items) c.self.inside.answers.items c.args.self.now c.self.view_is c.self.invariant.0 c.self.invariant.1 c.self.invariant.2 c.ready.ensures.exact c.reserve.new.self.items (vec_capacity c.reserve.new.self) c.reserve.ensures.items c.reserve.ensures.capacity in
-    (all.0, all.1, all.2, subst (λ j. Tallies c.self.inside.graph.nodes (events_of j) c.self.inside.uses.nodes c.self.inside.done.items c.self.inside.unanswered.items (length c.self.inside.answers.items) c.self.inside.running) (sym c.reserve.ensures.items) c.self.invariant.3)
+    let all = kept_all g.N.NodeSet.meanings g.N.NodeSet.kind_of g.N.NodeSet.content c.self.inside.graph c.self.inside.given.value.items c.self.inside.journal.items c.self.inside.refused.items (vec_capacity c.self.inside.journal) c.self.inside.uses c.self.inside.choices.items (lists_of c.self.inside.rows.items) c.self.inside.answers.items c.args.self.now c.self.view_is c.self.invariant.0 c.self.invariant.1 c.self.invariant.2 c.ready.ensures.exact c.reserve.new.self.items (vec_capacity c.reserve.new.self) c.reserve.ensures.items c.reserve.ensures.capacity in (
+      all.0,
+      all.1,
+      all.2,
+      subst (λ j. Tallies c.self.inside.graph.nodes (events_of j) c.self.inside.uses.nodes c.self.inside.done.items c.self.inside.unanswered.items (length c.self.inside.answers.items) c.self.inside.running) (sym c.reserve.ensures.items) c.self.invariant.3,
+      subst (λ j. HandsOn g.N.NodeSet.meanings g.N.NodeSet.kind_of g.N.NodeSet.content (seen c.self.inside.graph c.self.inside.given.value.items j) (readers_in c.self.inside.readers.items) c.self.inside.roots.items) (sym c.reserve.ensures.items) c.self.invariant.4,
+    )
 
 pub returns-then-is_err : goal.returns-then-is_err
 returns-then-is_err g c = ap (seen c.self.inside.graph c.self.inside.given.value.items) c.reserve.ensures.items ∙ c.self.view_is
@@ -64,6 +71,9 @@ invariant_of-self-2 g c =
       all.2,
       subst (λ es. Tallies c.self.inside.graph.nodes es c.take.new.self.nodes c.self.inside.done.items c.self.inside.unanswered.items (length c.answer_out.new.answers.items) (c.self.inside.running + 1)) (sym (ap events_of last ∙ events_push c.self.inside.journal.items (happened.Take c.args.worker c.in-Some.number)))
           (tallied_take c.self.inside.graph.nodes (events_of c.self.inside.journal.items) c.self.inside.done.items c.self.inside.unanswered.items (length c.self.inside.answers.items) c.self.inside.running c.self.inside.uses c.take.new.self c.args.worker c.in-Some.number (length c.answer_out.new.answers.items) first c.answer_out.ensures.len c.self.invariant.3),
+      subst (λ s. HandsOn g.N.NodeSet.meanings g.N.NodeSet.kind_of g.N.NodeSet.content s (readers_in c.self.inside.readers.items) c.self.inside.roots.items)
+          (sym (ap (seen c.self.inside.graph c.self.inside.given.value.items) last ∙ seen_take c.self.inside.graph c.self.inside.given.value.items c.self.inside.journal.items c.args.worker c.in-Some.number))
+          (hands_taken g.N.NodeSet.meanings g.N.NodeSet.kind_of g.N.NodeSet.content (seen c.self.inside.graph c.self.inside.given.value.items c.self.inside.journal.items) (readers_in c.self.inside.readers.items) c.self.inside.roots.items c.args.worker c.in-Some.number c.self.invariant.4),
     )
 
 pub returns : goal.returns
