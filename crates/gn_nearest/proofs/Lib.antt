@@ -3,3 +3,4 @@ pub mod Parts
 pub mod Growth
 pub mod Listed
 pub mod Trees
+pub mod Rows
