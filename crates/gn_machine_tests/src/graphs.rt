@@ -160,6 +160,16 @@ pub fn serve_next(state: &mut ExecState<Numbers>, answer: Answer) -> Option<u64>
     }
 }
 
+/// Whether a node of this kind is no zone.
+fn is_run(kind: NumberKind) -> bool
+    ensures { result ≡ true → kind ≢ Repeat }
+{
+    match kind {
+        NumberKind::Add | NumberKind::Choose | NumberKind::Measure => true,
+        NumberKind::Repeat => false,
+    }
+}
+
 /// A worker takes what is next and hands in what its run gives: the number of the node, and the values of
 /// its inputs. It is `None` where there is nothing to take, where that is a zone, and for want of memory.
 pub fn run_next<L>(
@@ -172,7 +182,7 @@ pub fn run_next<L>(
     let Taken::Job(job) = state.take(&Numbers, worker) else {
         return None;
     };
-    if matches!(job.kind, NumberKind::Repeat) {
+    if !is_run(job.kind) {
         return None;
     }
     let alloc = *job.inputs.allocator();

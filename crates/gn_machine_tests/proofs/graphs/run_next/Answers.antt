@@ -1,9 +1,10 @@
-use Rattle.std.proofs.Common.{rules, ◌≡◌, ◌≢◌, ◌<◌, [], true, length, IfOk, IfSome, ℕ, ◌+◌, ◌-◌, ◌*◌, ◌≤◌, ◌/◌, ◌%◌, Bool, false, nat_eq, nat_lt, List, ◌∷◌, ◌++◌, slice_index_or, slice_set, bit_and, bit_or, Fits, w8, w32, w64, Bor, MutBor}
-use Rattle.gn_lazy.specs.Graphs.{IsOrdered}
-use Rattle.gn_machine_tests.specs.declared.numbers.NumberKind.TheVariants.{Choose, Repeat}
-use Rattle.gn_machine_tests.specs.Named.{AreNamed, one_step}
+use Rattle.std.proofs.Common.{ap, ◌∙◌}
+use Rattle.std.specs.Prelude.{option_map}
+use Rattle.gn_nodes.specs.Values.{answer_of}
+use Rattle.gn_machine_tests.proofs.Running.{given, handed_in}
 use Rattle.gn_machine_tests.proofs.graphs.run_next.Goals as goal
 
--- src/graphs.rt:182:11
 pub finish-requires-after_bounds : goal.finish-requires-after_bounds
-finish-requires-after_bounds g c κs within = ?
+finish-requires-after_bounds g c κs within =
+    handed_in c.args.state.now c.take.new.self c.args.worker c.in-Job.job c.in-Job.ensures (c.is_run.ensures c.if-not-is_run.false) c.in-Ok.done
+    (c.in-Ok.ensures ∙ ap (λ xs. given c.in-Job.job.kind xs (option_map answer_of c.in-Job.job.answer)) c.deref.ensures.value)
