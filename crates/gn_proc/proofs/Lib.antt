@@ -1,3 +1,3 @@
 pub mod Tapes
-pub mod Here
 pub mod Preparing
+pub mod OneField

@@ -1,4 +1,3 @@
 pub mod Tapes
 pub mod Faults
 pub mod Prepared
-pub mod Elsewhere

@@ -5,9 +5,8 @@
 //! `TooMany` comes exactly where these are more than 4,096, with their number.
 //!
 //! `Tape::ready` makes a tape ready to be run in a context, with the values of what its fields read
-//! elsewhere, each made once. `Tape::ready_here` does so without memory, and refuses only where a field
-//! reads elsewhere. `Ready::run` promises a register for each field, which has the field's value at each
-//! of the elements (`AllGive`).
+//! elsewhere, each made once. `Ready::run` promises a register for each field, which has the field's value
+//! at each of the elements (`AllGive`). `at` gives the value of one field at one element.
 //!
 //! A tape keeps a plan, which says in which order its steps are run and in which slot each leaves its
 //! values. The crate stands on `gn_field` for the steps, on `gn_schedule` for plans, on `gn_slots`,
@@ -15,8 +14,10 @@
 //! say what fields are.
 #![tactic(auto)]
 
+mod element;
 mod ready;
 mod tape;
 
+pub use element::at;
 pub use ready::Ready;
 pub use tape::{Tape, TapeFault, build};

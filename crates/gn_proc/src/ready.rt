@@ -1,12 +1,9 @@
 // A tape with what it needs to be run in a context.
-ghost use Rattle.std.specs.Prelude.{◌≡◌, ℕ, ◌<◌, true, false, All, map, IfOk, IfSome, IfNone};
+ghost use Rattle.std.specs.Prelude.{◌≡◌, ◌<◌, All, map, IfOk};
 ghost use Rattle.gn_plain.specs.Contexts.{length_of};
-ghost use Rattle.gn_field.specs.Steps.{named, built, exprs_of};
-ghost use Rattle.gn_schedule.specs.Plans.{AreInstructions};
+ghost use Rattle.gn_field.specs.Steps.{named, built};
 ghost use Rattle.gn_slots.specs.Registers.{AllGive};
 ghost use Rattle.gn_proc.specs.Tapes.{IsTape};
-ghost use Rattle.gn_proc.specs.Prepared.{reads_here, RunHere, RunsElsewhere};
-ghost use Rattle.gn_proc.specs.Elsewhere.{any_elsewhere};
 
 use gn_field::{Context, FieldStep, Source};
 use gn_memory::Memory;
@@ -58,52 +55,6 @@ pub(crate) fn prepare<'a, S: Source, C: Context + Drop>(
 {
     let wholes = wholes_in(alloc, steps, roots, context)?;
     Ok(Ready {
-        steps,
-        roots,
-        plan,
-        context,
-        wholes,
-    })
-}
-
-/// Whether a step reads all that it reads at its own elements.
-fn reads_here<S>(step: &FieldStep<S>) -> bool
-    ensures { result ≡ reads_here step.now }
-{
-    !matches!(step, FieldStep::Elsewhere { .. })
-}
-
-/// Whether no step that a plan runs reads elsewhere.
-fn runs_here<S: Source>(steps: &[FieldStep<S>], plan: &Plan) -> bool
-    requires { AreInstructions S.sources steps.now plan.now.kinds.items plan.now.instructions.items }
-    ensures here { result ≡ true → RunHere steps.now plan.now.instructions.items }
-    ensures elsewhere { result ≡ false → RunsElsewhere steps.now plan.now.instructions.items }
-{
-    for instruction in &plan.instructions {
-        if !reads_here(&steps[instruction.step as usize]) {
-            return false;
-        }
-    }
-    true
-}
-
-/// Makes a tape ready to be run in a context, if none of its steps that are run reads elsewhere.
-pub(crate) fn prepare_here<'a, S: Source, C: Context>(
-    alloc: Global,
-    steps: &'a [FieldStep<S>],
-    roots: &'a [u32],
-    plan: &'a Plan,
-    context: &'a C,
-) -> Option<Ready<'a, S, C>>
-    requires { IsTape S.sources S.taken steps.now roots.now plan.now }
-    ensures ready { IfSome result (λ ready. ready ≡ (map (named (built steps.now)) roots.now, context.now)) }
-    ensures elsewhere { IfNone result (any_elsewhere (exprs_of (map (named (built steps.now)) roots.now)) ≡ true) }
-{
-    if !runs_here(steps, plan) {
-        return None;
-    }
-    let wholes = Vec::new(alloc);
-    Some(Ready {
         steps,
         roots,
         plan,

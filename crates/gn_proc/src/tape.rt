@@ -1,13 +1,12 @@
 // Several fields as one list of instructions.
-ghost use Rattle.std.specs.Prelude.{◌≡◌, ◌≤◌, true, length, map, IfOk, IfErr, OnOk, IfSome, IfNone};
+ghost use Rattle.std.specs.Prelude.{◌≡◌, ◌≤◌, length, map, IfOk, IfErr, OnOk};
 ghost use Rattle.gn_plain.specs.Subtrees.{count_different};
 ghost use Rattle.gn_field.specs.Together.{AgreeOnSources};
-ghost use Rattle.gn_field.specs.Steps.{named, built, exprs_of};
+ghost use Rattle.gn_field.specs.Steps.{named, built};
 ghost use Rattle.gn_proc.specs.Tapes.{AreSteps};
 ghost use Rattle.gn_proc.specs.Faults.{IsTapeFault};
-ghost use Rattle.gn_proc.specs.Elsewhere.{any_elsewhere};
 
-use crate::ready::{Ready, prepare, prepare_here};
+use crate::ready::{Ready, prepare};
 use gn_field::{Context, Field, FieldStep, Gathered, Source};
 use gn_memory::Memory;
 use gn_schedule::{Plan, plan_of};
@@ -53,7 +52,7 @@ impl<S: Source> Model for Tape<S> {
     ghost use Rattle.std.specs.Coded.{coded_list};
     ghost use Rattle.gn_plain.specs.Fields.{Expr};
     ghost use Rattle.gn_field.specs.Codes.{expr_code};
-    ghost use Rattle.gn_field.specs.Steps.{named, built, exprs_of};
+    ghost use Rattle.gn_field.specs.Steps.{named, built};
     ghost use Rattle.gn_proc.specs.Tapes.{IsTape};
 
     ghost Value = { List (Expr S) };
@@ -117,17 +116,5 @@ impl<S: Source> Tape<S> {
         ensures { IfOk result (λ ready. ready ≡ (self.now, context.now)) }
     {
         prepare(alloc, &self.steps, &self.roots, &self.plan, context)
-    }
-
-    /// The tape with what it needs to be run in a context, or `None` where a field reads elsewhere.
-    pub fn ready_here<'a, C: Context>(
-        &'a self,
-        alloc: Global,
-        context: &'a C,
-    ) -> Option<Ready<'a, S, C>>
-        ensures ready { IfSome result (λ ready. ready ≡ (self.now, context.now)) }
-        ensures elsewhere { IfNone result (any_elsewhere (exprs_of self.now) ≡ true) }
-    {
-        prepare_here(alloc, &self.steps, &self.roots, &self.plan, context)
     }
 }
