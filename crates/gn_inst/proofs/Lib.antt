@@ -1,0 +1,5 @@
+pub mod RealizedParts
+pub mod Realized
+pub mod RealizedSteps
+pub mod Counted
+pub mod Smaller
