@@ -104,7 +104,7 @@ fn columns_of(alloc: Global, registers: Vec<Register>) -> Result<Vec<Column>, Me
 /// values there, and zero at the others.
 ///
 /// Condition: the mask's elements are in range.
-pub fn columns_over<S: Source + Send + Sync, C: Context + Sync>(
+pub(crate) fn columns_over<S: Source + Send + Sync, C: Context + Sync>(
     rt: &(impl Threads + Sync),
     alloc: Global,
     ready: &Ready<'_, S, C>,

@@ -47,8 +47,10 @@ pub(crate) fn run_parts<S: Source + Send + Sync, C: Context + Sync>(
     requires { All (λ part. All (λ n. n < length_of (C.meaning ready.now.1)) part) parts.now }
     ensures { IfOk result (λ values. AllZip (GivesPart S.sources (C.meaning ready.now.1) ready.now.0) parts.now values.items) }
 {
+    // a part is much work, so one is worth a thread
     parts
         .par_iter()
+        .with_min_len(1)
         .map(
             |part: &Mask| -> Result<PartValues, Memory>
                 requires { All (λ n. n < length_of (C.meaning ready.now.1)) part.now }

@@ -5,10 +5,10 @@ use Rattle.rayon.proofs.ToStd.{slice-AllZip}
 use Rattle.gn_run.specs.Evaluated.{GivesPart}
 use Rattle.gn_run.proofs.parts.run_parts.Goals as goal
 
--- in the form that the design's trial found; what the closure captured is `alloc` and `ready`
+-- what the closure captured is `alloc` and `ready`
 pub returns : goal.returns
 returns g c =
-    let slice = ap (λ it. it.slice.now) c.map.ensures.base ∙ c.par_iter.ensures in
+    let slice = ap (λ it. it.base.slice.now) c.map.ensures.base ∙ ap (λ it. it.slice.now) c.with_min_len.ensures.base ∙ c.par_iter.ensures in
     let ready = ap (λ f. f.1.now) c.map.ensures.f in
     IfOk-then c.collect.result _ _ c.collect.ensures (λ v h.
     let chain = h.1 in
