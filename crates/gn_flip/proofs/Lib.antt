@@ -1,0 +1,6 @@
+mod Lists
+mod Steps
+pub mod Orders
+mod Faces
+pub mod Turning
+mod Examples
